@@ -1,0 +1,34 @@
+-- A test of one number as a fact, and the fact as the test.
+use mathlib.Core.Path.{_≡_, refl, sym, _∙_}
+use mathlib.Core.Bool.{Bool, true, false, _&&_}
+use Prim.Native.Nat.{ℕ}
+use native.Mathlib.Omega.{arith}
+use lib.Dec.{leb}
+use borrow.Author.Tests.{leb-true, le-leb}
+use Rattle.job.specs.Check.{allowed}
+use Rattle.job.specs.Sound.{Within}
+
+pub clash : {b : Bool} → b ≡ false → b ≡ true → ⊥
+clash {b} e f = let z : false ≡ true = sym e ∙ f in let y : _≡_ {A = ℕ} 0 1 = cc in omega arith
+
+pub both : (a b : Bool) → (a && b) ≡ true → (a ≡ true) × (b ≡ true)
+both true b e = (refl, e)
+both false b e = absurd (clash refl e)
+
+pub allowed-within : (x most : ℕ) → allowed x most ≡ true → Within x most
+allowed-within x most e =
+    let tests = both (leb 1 x) (leb x most) e in
+    record { low = leb-true 1 x (tests .0); high = leb-true x most (tests .1) }
+
+pub within-allowed : (x most : ℕ) → Within x most → allowed x most ≡ true
+within-allowed x most w = simp (le-leb 1 x (w .low), le-leb x most (w .high))
+
+pub not-allowed : (x most : ℕ) → allowed x most ≡ false → ¬ Within x most
+not-allowed x most e w = clash e (within-allowed x most w)
+
+pub not-within : (x most : ℕ) → ¬ Within x most → allowed x most ≡ false
+not-within x most n = go (allowed x most) refl
+  where
+    go : (b : Bool) → allowed x most ≡ b → allowed x most ≡ false
+    go true e = absurd (n (allowed-within x most e))
+    go false e = e

@@ -1,0 +1,91 @@
+-- `told` has an inverse, so an answer is determined by the paper's number and values; and no refusal has the number 0.
+use mathlib.Core.Path.{_≡_, refl, sym, _∙_, ap}
+use mathlib.Core.Bool.{Bool, false, cond}
+use mathlib.Core.List.{List}
+use Prim.Native.Nat.{ℕ}
+use lib.Dec.{eqb}
+use lib.ListN.{getD}
+use Rattle.job.specs.declared.refusal.Refusal.{Refusal}
+use Rattle.job.specs.declared.refusal.Refusal.the-variants.{NoJobs, TooManyJobs, Period, Service, Window, Share, OriginalModel, CycleTooLong, Overload, StateOutOfRange, ClockAtLimit, BufferTooShort, SheetForm, JobBytes, OrderOrModel, SlotCount, SheetTooLong}
+use Rattle.job.specs.declared.refusal.Checked.{Checked}
+use Rattle.job.specs.declared.refusal.Checked.the-variants.{Passed, Refused}
+use Rattle.job.specs.Told.{Told, told, toldChecked}
+use Rattle.job.specs.Meaning.{RefusalOneToOne, CheckedOneToOne}
+
+-- whatever has an inverse is one-to-one
+pub one-to-one {ℓ κ} : {A : Type ℓ} {B : Type κ} (f : A → B) (g : B → A) → ((a : A) → g (f a) ≡ a) → (a b : A) → f a ≡ f b → a ≡ b
+one-to-one f g inverse a b e = sym (inverse a) ∙ ap g e ∙ inverse b
+
+pub rowBack : Told → Refusal
+rowBack t =
+    let n = t .number in
+    let x = getD (t .values) 0 0 in
+    cond (eqb n 1) NoJobs
+    (cond (eqb n 2) TooManyJobs
+    (cond (eqb n 3) (Period x)
+    (cond (eqb n 4) (Service x)
+    (cond (eqb n 5) (Window x)
+    (cond (eqb n 6) (Share x)
+    (cond (eqb n 7) OriginalModel
+    (cond (eqb n 8) CycleTooLong
+    (cond (eqb n 9) (Overload x (getD (t .values) 1 0))
+    (cond (eqb n 10) StateOutOfRange
+    (cond (eqb n 11) ClockAtLimit
+    (cond (eqb n 12) BufferTooShort
+    (cond (eqb n 13) (SheetForm x)
+    (cond (eqb n 14) JobBytes
+    (cond (eqb n 15) OrderOrModel
+    (cond (eqb n 16) SlotCount SheetTooLong)))))))))))))))
+
+pub row-back : (r : Refusal) → rowBack (told r) ≡ r
+unfolding rowBack
+row-back NoJobs = refl
+row-back TooManyJobs = refl
+row-back (Period j) = refl
+row-back (Service j) = refl
+row-back (Window j) = refl
+row-back (Share j) = refl
+row-back OriginalModel = refl
+row-back CycleTooLong = refl
+row-back (Overload h l) = refl
+row-back StateOutOfRange = refl
+row-back ClockAtLimit = refl
+row-back BufferTooShort = refl
+row-back (SheetForm p) = refl
+row-back JobBytes = refl
+row-back OrderOrModel = refl
+row-back SlotCount = refl
+row-back SheetTooLong = refl
+
+pub refusal-one-to-one : RefusalOneToOne
+refusal-one-to-one = one-to-one told rowBack row-back
+
+pub told-refuses : (r : Refusal) → eqb (told r .number) 0 ≡ false
+told-refuses NoJobs = refl
+told-refuses TooManyJobs = refl
+told-refuses (Period j) = refl
+told-refuses (Service j) = refl
+told-refuses (Window j) = refl
+told-refuses (Share j) = refl
+told-refuses OriginalModel = refl
+told-refuses CycleTooLong = refl
+told-refuses (Overload h l) = refl
+told-refuses StateOutOfRange = refl
+told-refuses ClockAtLimit = refl
+told-refuses BufferTooShort = refl
+told-refuses (SheetForm p) = refl
+told-refuses JobBytes = refl
+told-refuses OrderOrModel = refl
+told-refuses SlotCount = refl
+told-refuses SheetTooLong = refl
+
+checkedBack : Told → Checked
+checkedBack t = cond (eqb (t .number) 0) Passed (Refused (rowBack t))
+
+checked-back : (r : Checked) → checkedBack (toldChecked r) ≡ r
+unfolding checkedBack
+checked-back Passed = refl
+checked-back (Refused r) = rw (told-refuses r) (ap Refused (row-back r))
+
+pub checked-one-to-one : CheckedOneToOne
+checked-one-to-one = one-to-one toldChecked checkedBack checked-back

@@ -1,0 +1,40 @@
+// A list of jobs by value: 16 records and a count. Records at and past the count are never read.
+ghost use mathlib.Core.Path.{_≡_};
+ghost use Rattle.job.specs.Check.{listTold};
+ghost use Rattle.job.specs.Told.{toldChecked};
+use crate::record::Job;
+use crate::refusal::Checked;
+use crate::refusal::Refusal;
+
+pub struct JobList {
+    pub jobs: [Job; 16],
+    pub count: usize,
+}
+
+impl JobList {
+    // 'jobs: 1 to 16'
+    pub const COUNT_MOST: usize = 16;
+
+    // Rows 1, 2, then 3 to 6 for the lowest job at fault.
+    pub fn check(self) -> Checked
+        ensures { λ r. ⌜ toldChecked r ≡ listTold self ⌝ }
+    {
+        let count = self.count;
+        if count == 0 {
+            return Checked::Refused(Refusal::NoJobs);
+        }
+        if JobList::COUNT_MOST < count {
+            return Checked::Refused(Refusal::TooManyJobs);
+        }
+        let mut at: usize = 0;
+        while at < count {
+            let job = self.jobs[at];
+            let found = job.check(at);
+            if let Checked::Refused(_) = found {
+                return found;
+            }
+            at += 1;
+        }
+        Checked::Passed
+    }
+}

@@ -16,3 +16,10 @@ kMost = 255
 -- 'common cycle, admission only: at most 16,777,216'
 abbrev pub cycleMost : ℕ
 cycleMost = 16777216
+
+-- 'model 0 is relaxed, 1 is original'
+abbrev pub relaxed : ℕ
+relaxed = 0
+
+abbrev pub original : ℕ
+original = 1

@@ -21,6 +21,10 @@ impl Job {
     pub const K_MOST: u32 = 255;
     // 'common cycle, admission only: at most 16,777,216'
     pub const CYCLE_MOST: u64 = 16777216;
+    // 'model 0 is relaxed, 1 is original': how a job is served
+    pub const RELAXED: u32 = 0;
+
+    pub const ORIGINAL: u32 = 1;
 
     // The job at number `at` of a list, by rows 3 to 6: T before C before k before m.
     pub fn check(self, at: usize) -> Checked

@@ -1,0 +1,8 @@
+-- What the contracts of `admission` say: divisor, cycle, load, verdict, and what a reader may conclude from them.
+pub mod Divisor
+pub mod Cycle
+pub mod Load
+pub mod Answer
+pub mod Verdict
+pub mod Meaning
+pub mod Cases

@@ -1,0 +1,42 @@
+// What admission answers.
+ghost use mathlib.Core.Path.{_≡_};
+ghost use Rattle.admission.specs.Answer.{toldAdmission, cycleReturned, loadReturned};
+use job::Refusal;
+
+pub enum Admission {
+    Admitted { cycle: u64, load: u64 },
+    Refused(Refusal),
+}
+
+impl Admission {
+    // 'Cycle and load are 0 in each refusal but 9, which returns both.'
+    pub fn cycle(self) -> u64
+        ensures { λ r. ⌜ r ≡ cycleReturned (toldAdmission self) ⌝ }
+    {
+        match self {
+            Admission::Admitted { cycle, load: _ } => cycle,
+            Admission::Refused(refusal) => {
+                if let Refusal::Overload { cycle, load: _ } = refusal {
+                    cycle
+                } else {
+                    0
+                }
+            }
+        }
+    }
+
+    pub fn load(self) -> u64
+        ensures { λ r. ⌜ r ≡ loadReturned (toldAdmission self) ⌝ }
+    {
+        match self {
+            Admission::Admitted { cycle: _, load } => load,
+            Admission::Refused(refusal) => {
+                if let Refusal::Overload { cycle: _, load } = refusal {
+                    load
+                } else {
+                    0
+                }
+            }
+        }
+    }
+}

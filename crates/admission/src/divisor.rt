@@ -1,0 +1,15 @@
+// The greatest common divisor, by remainders.
+ghost use Rattle.admission.specs.Divisor.{GreatestDivisor};
+
+pub fn common_divisor(a: u64, b: u64) -> u64
+    ensures { λ r. ⌜ GreatestDivisor a b r ⌝ }
+{
+    let mut x = a;
+    let mut y = b;
+    while y != 0 {
+        let rest = x % y;
+        x = y;
+        y = rest;
+    }
+    x
+}

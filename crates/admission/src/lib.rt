@@ -1,0 +1,8 @@
+// Whether a list can be promised no short window: its common cycle, its load, and the verdict.
+mod answer;
+mod decide;
+pub mod divisor;
+pub mod inner;
+
+pub use answer::Admission;
+pub use decide::verdict;

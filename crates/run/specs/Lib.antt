@@ -1,0 +1,14 @@
+-- What the contracts of `run` say, from one place to a whole run, and what a reader may conclude from it.
+pub mod Setting
+pub mod State
+pub mod Place
+pub mod Choice
+pub mod Slot
+pub mod Range
+pub mod Sound
+pub mod Answer
+pub mod Step
+pub mod Run
+pub mod Bytes
+pub mod History
+pub mod Meaning

@@ -1,0 +1,57 @@
+-- The state of a run: the fresh state of a list, and the state of all zeros.
+use Prim.Native.Nat.{ℕ, zero, suc, min}
+use mathlib.Core.Bool.{false}
+use mathlib.Core.List.{List}
+use lib.ListN.{getD, set, replicate}
+use Rattle.job.specs.declared.record.Job.{Job}
+use Rattle.job.specs.declared.list.JobList.{JobList}
+use Rattle.job.specs.Limit.{countMost}
+use Rattle.job.specs.Check.{noJob, jobAt}
+use Rattle.run.specs.declared.setting.Setting.{Setting}
+use Rattle.run.specs.declared.place.Place.{Place}
+use Rattle.run.specs.declared.state.State.{State}
+
+-- 'slot clock: 0 to 4,294,967,295'
+abbrev pub clockMost : ℕ
+clockMost = 4294967295
+
+-- 'each of the other two totals is at most 16 times the clock'
+abbrev pub setsMost : ℕ
+setsMost = 16
+
+abbrev pub blank : Place
+blank = record { job = noJob; at = record { e = 0; p = 0; u = 0; s = 0; v = 0; tag = false } }
+
+abbrev pub placeAt : List Place → ℕ → Place
+placeAt places i = getD places i blank
+
+-- a job at the opening of its window
+abbrev pub opened : Job → Place
+opened j = record { job = j; at = record { e = 0; p = 1; u = 0; s = 0; v = 0; tag = false } }
+
+-- 'the state of all zeros'
+abbrev pub zeros : State
+zeros =
+    record {
+      setting = record { order = 0; model = 0 };
+      clock = 0;
+      count = 0;
+      places = replicate 16 blank;
+      totals = record { given = 0; idle = 0; tags = 0; shorts = 0 };
+    }
+
+-- the first n jobs in their places, and zeros behind them
+unfoldable pub freshUpto : List Job → ℕ → List Place
+freshUpto jobs zero = replicate 16 blank
+freshUpto jobs (suc n) = set (freshUpto jobs n) n (opened (jobAt jobs n))
+
+-- 'the fresh state of a list'
+abbrev pub freshOf : JobList → Setting → State
+freshOf l s =
+    record {
+      setting = s;
+      clock = 0;
+      count = l .count;
+      places = freshUpto (l .jobs) (min (l .count) countMost);
+      totals = record { given = 0; idle = 0; tags = 0; shorts = 0 };
+    }

@@ -1,0 +1,84 @@
+// The choice: the eligible place of least distance, the lower number where two are equal.
+ghost use mathlib.Core.Path.{_≡_};
+ghost use Rattle.run.specs.Sound.{SoundPlace, SoundState};
+ghost use Rattle.run.specs.Choice.{Small, distanceOf, nearerOf, betterOf, chosenOf};
+use crate::inner::service::eligible;
+use crate::inner::service::numerator;
+use crate::inner::service::owed;
+use crate::inner::service::window_left;
+use crate::place::Place;
+use crate::setting::Setting;
+use crate::state::State;
+
+// A place's number and its distance from now, the fraction num / den.
+pub struct Held {
+    pub at: usize,
+    pub num: i64,
+    pub den: u32,
+}
+
+// 'Order V: lowest virtual deadline'; 'Order W: soonest window end, k'T − e slots away'.
+pub fn distance(setting: Setting, at: usize, q: Place) -> Held
+    requires { ⌜ SoundPlace setting q ⌝ }
+    ensures { λ r. ⌜ r ≡ distanceOf setting at q ⌝ }
+{
+    if setting.order == Setting::V {
+        let num = numerator(setting, q);
+        return Held {
+            at,
+            num,
+            den: owed(setting, q),
+        };
+    }
+    let slots = window_left(setting, q) - q.at.e;
+    Held {
+        at,
+        num: slots as i64,
+        den: 1,
+    }
+}
+
+// 'two are compared exactly as fractions'
+pub fn nearer(a: Held, b: Held) -> bool
+    requires { ⌜ Small a × Small b ⌝ }
+    ensures { λ r. ⌜ r ≡ nearerOf a b ⌝ }
+{
+    let x = a.num;
+    let y = b.num;
+    let dx = b.den as i64;
+    let dy = a.den as i64;
+    x * dx < y * dy
+}
+
+// The nearer of the best so far and the place at number `at`.
+pub fn better(setting: Setting, best: Held, at: usize, q: Place) -> Held
+    requires { ⌜ SoundPlace setting q × Small best ⌝ }
+    ensures { λ r. ⌜ r ≡ betterOf setting best at q ⌝ }
+{
+    if eligible(setting, q) {
+        let next = distance(setting, at, q);
+        if nearer(next, best) {
+            return next;
+        }
+    }
+    best
+}
+
+// The number of the place chosen, or 16 where none is eligible.
+pub fn choose(state: State) -> usize
+    requires { ⌜ SoundState state ⌝ }
+    ensures { λ r. ⌜ r ≡ chosenOf state ⌝ }
+{
+    let setting = state.setting;
+    let mut best = Held {
+        at: 16,
+        num: 1,
+        den: 0,
+    };
+    let mut at: usize = 0;
+    while at < state.count {
+        best = better(setting, best, at, state.places[at]);
+        at += 1;
+    }
+    best.at
+}

@@ -1,0 +1,118 @@
+// The state of a run: a setting, the clock, the places of the jobs, and the totals.
+ghost use mathlib.Core.Path.{_≡_};
+ghost use Rattle.run.specs.State.{zeros, blank, opened, freshOf};
+ghost use Rattle.run.specs.Range.{stateInRange};
+use crate::place::Place;
+use crate::place::Progress;
+use crate::range;
+use crate::setting::Setting;
+use job::Job;
+use job::JobList;
+
+pub struct Totals {
+    pub given: u32,
+    pub idle: u32,
+    pub tags: u64,
+    pub shorts: u64,
+}
+
+pub struct State {
+    pub setting: Setting,
+    pub clock: u32,
+    pub count: usize,
+    pub places: [Place; 16],
+    pub totals: Totals,
+}
+
+impl State {
+    // 'slot clock: 0 to 4,294,967,295'
+    pub const CLOCK_MOST: u32 = 4294967295;
+    // 'each of the other two totals is at most 16 times the clock'
+    pub const SETS_MOST: u64 = 16;
+
+    // 'the state of all zeros'
+    pub fn zeros() -> State
+        ensures { λ r. ⌜ r ≡ zeros ⌝ }
+    {
+        State {
+            setting: Setting { order: 0, model: 0 },
+            clock: 0,
+            count: 0,
+            places: [blank_place(); 16],
+            totals: Totals {
+                given: 0,
+                idle: 0,
+                tags: 0,
+                shorts: 0,
+            },
+        }
+    }
+
+    // The fresh state of a list: every window opens at slot 0. Places past the last job are zeros.
+    pub fn fresh(list: JobList, setting: Setting) -> State
+        ensures { λ r. ⌜ r ≡ freshOf list setting ⌝ }
+    {
+        let mut state = State::zeros();
+        state.setting = setting;
+        state.count = list.count;
+        let count = list.count;
+        let mut at: usize = 0;
+        while (at < count) & (at < JobList::COUNT_MOST) {
+            let place = opened_place(list.jobs[at]);
+            state.places[at] = place;
+            at += 1;
+        }
+        state
+    }
+
+    // Row 10: whether the state is in its ranges, whatever it holds.
+    pub fn in_range(self) -> bool
+        ensures { λ r. ⌜ r ≡ stateInRange self ⌝ }
+    {
+        self.setting.allowed()
+            & (self.clock <= State::CLOCK_MOST)
+            & (1 <= self.count)
+            & (self.count <= JobList::COUNT_MOST)
+            & range::places_in_range(self)
+            & range::totals_in_range(self.clock, self.totals)
+    }
+}
+
+// A place of no job.
+fn blank_place() -> Place
+    ensures { λ r. ⌜ r ≡ blank ⌝ }
+{
+    Place {
+        job: Job {
+            c: 0,
+            t: 0,
+            m: 0,
+            k: 0,
+        },
+        at: Progress {
+            e: 0,
+            p: 0,
+            u: 0,
+            s: 0,
+            v: 0,
+            tag: false,
+        },
+    }
+}
+
+// A job at the opening of its window.
+fn opened_place(job: Job) -> Place
+    ensures { λ r. ⌜ r ≡ opened job ⌝ }
+{
+    Place {
+        job,
+        at: Progress {
+            e: 0,
+            p: 1,
+            u: 0,
+            s: 0,
+            v: 0,
+            tag: false,
+        },
+    }
+}

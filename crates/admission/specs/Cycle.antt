@@ -7,6 +7,7 @@ use Rattle.job.specs.declared.record.Job.{Job}
 use Rattle.job.specs.declared.list.JobList.{JobList}
 use Rattle.job.specs.Limit.{cycleMost}
 use Rattle.job.specs.Told.{Told, row}
+use Rattle.job.specs.Window.{windowOf}
 use Rattle.job.specs.Check.{jobAt}
 use Rattle.admission.specs.declared.inner.Cycle.{Cycle}
 use Rattle.admission.specs.declared.inner.Cycle.the-variants.{Of, TooLong}
@@ -14,10 +15,6 @@ use Rattle.admission.specs.Divisor.{gcd}
 
 unfoldable pub lcm : ℕ → ℕ → ℕ
 lcm a b = a / gcd a b * b
-
--- 'Its window is k times T slots'
-abbrev pub windowOf : Job → ℕ
-windowOf j = j .k * j .t
 
 -- the cycle of the first n jobs
 unfoldable pub cycleUpto : List Job → ℕ → ℕ

@@ -1,6 +1,6 @@
 -- The greatest common divisor: as what it is, and by Euclid's rule.
 use Prim.Native.Nat.{ℕ, zero, suc, _%_, _∣_}
-use mathlib.Core.Bool.{Bool, true, false}
+use mathlib.Core.Bool.{true, false}
 use lib.Dec.{eqb}
 
 -- a common divisor that every common divisor divides

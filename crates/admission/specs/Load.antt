@@ -4,7 +4,7 @@ use mathlib.Core.List.{List}
 use Rattle.job.specs.declared.record.Job.{Job}
 use Rattle.job.specs.declared.list.JobList.{JobList}
 use Rattle.job.specs.Check.{jobAt}
-use Rattle.admission.specs.Cycle.{windowOf}
+use Rattle.job.specs.Window.{windowOf}
 
 abbrev pub shareOf : Job → ℕ → ℕ
 shareOf j h = j .m * j .c * (h / windowOf j)

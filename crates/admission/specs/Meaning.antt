@@ -2,7 +2,7 @@
 use mathlib.Core.Path.{_≡_}
 use mathlib.Core.Logic.{_↔_}
 use mathlib.Core.List.{[], _∷_}
-use Prim.Native.Nat.{ℕ, _*_, _/_, _≤_, _<_, _∣_}
+use Prim.Native.Nat.{ℕ, _*_, _≤_, _<_, _∣_}
 use Rattle.job.specs.declared.list.JobList.{JobList}
 use Rattle.job.specs.Limit.{countMost, relaxed, original, cycleMost}
 use Rattle.job.specs.Told.{row}
@@ -10,7 +10,8 @@ use Rattle.job.specs.Check.{jobAt}
 use Rattle.job.specs.Sound.{SoundList, LowestFault}
 use Rattle.admission.specs.declared.answer.Admission.{Admission}
 use Rattle.admission.specs.Divisor.{GreatestDivisor, gcd}
-use Rattle.admission.specs.Cycle.{windowOf, cycleOf}
+use Rattle.job.specs.Window.{windowOf}
+use Rattle.admission.specs.Cycle.{cycleOf}
 use Rattle.admission.specs.Load.{shareOf, loadOf}
 use Rattle.admission.specs.Answer.{toldAdmission}
 use Rattle.admission.specs.Verdict.{verdictTold}

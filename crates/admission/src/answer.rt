@@ -9,6 +9,16 @@ pub enum Admission {
 }
 
 impl Admission {
+    // 0, or the row's number.
+    pub fn number(self) -> u32
+        ensures { λ r. ⌜ r ≡ toldAdmission self .number ⌝ }
+    {
+        match self {
+            Admission::Admitted { cycle: _, load: _ } => 0,
+            Admission::Refused(refusal) => refusal.number(),
+        }
+    }
+
     // 'Cycle and load are 0 in each refusal but 9, which returns both.'
     pub fn cycle(self) -> u64
         ensures { λ r. ⌜ r ≡ cycleReturned (toldAdmission self) ⌝ }

@@ -1,12 +1,13 @@
 -- The statements of specs/Meaning about the check of a list.
 use mathlib.Core.Path.{_≡_, refl, sym, _∙_, ap, subst}
-use mathlib.Core.Bool.{Bool, true, false, cond}
+use mathlib.Core.Bool.{Bool, true, false}
+use mathlib.Core.Logic.{_↔_}
 use mathlib.Core.List.{List, [], _∷_}
 use Prim.Native.Nat.{ℕ, zero, suc, _+_, _≤_, _<_}
 use native.Mathlib.Numerals.{add-one}
 use native.Mathlib.Omega.{arith}
 use lib.Dec.{eqb, ltb}
-use lib.ListN.{length, getD}
+use lib.ListN.{getD}
 use borrow.Author.Count.{below-more}
 use borrow.Author.Tests.{eqb-true, ltb-true, eqb-false, ltb-false, eq-eqb, ne-eqb, lt-ltb}
 use Rattle.job.specs.declared.record.Job.{Job}
@@ -14,10 +15,11 @@ use Rattle.job.specs.declared.list.JobList.{JobList}
 use Rattle.job.specs.Limit.{countMost, tMost, kMost}
 use Rattle.job.specs.Told.{Told, row, passed}
 use Rattle.job.specs.Check.{allowed, jobAt, jobTold, jobsTold, listTold}
-use Rattle.job.specs.Sound.{Within, SoundJob, SoundBelow, SoundList, FaultOf, t-fault, c-fault, k-fault, m-fault, LowestFault}
+use Rattle.job.specs.Sound.{SoundJob, SoundBelow, SoundList, FaultOf, t-fault, c-fault, k-fault, m-fault, LowestFault}
 use Rattle.job.specs.Meaning.{PassesExactly, RowOneExactly, RowTwoExactly, JobRowsExactly}
-use Rattle.job.proofs.TestLaws.{allowed-within, within-allowed, not-allowed, not-within}
-use Rattle.job.proofs.CheckLaws.{otherwise-refused, no-job-told, one-more, stays, by-count, by-jobs}
+use Rattle.job.proofs.ToldLaws.{apart, valued}
+use Rattle.job.proofs.TestLaws.{clash, allowed-within, within-allowed, not-allowed, not-within}
+use Rattle.job.proofs.CheckLaws.{no-job-told, one-more, stays, by-count, by-jobs}
 
 -- one job
 sound-passes : (i : ℕ) (j : Job) → SoundJob j → jobTold i j ≡ passed
@@ -36,7 +38,7 @@ fault-names i j n (m-fault t c k m) =
     simp
     (within-allowed (j .t) tMost t, within-allowed (j .c) (j .t) c, within-allowed (j .k) kMost k, not-within (j .m) (j .k) m)
 
-fault-refuses : (j : Job) (n : ℕ) → FaultOf j n → eqb n 0 ≡ false
+pub fault-refuses : (j : Job) (n : ℕ) → FaultOf j n → eqb n 0 ≡ false
 fault-refuses j n (t-fault t) = refl
 fault-refuses j n (c-fault t c) = refl
 fault-refuses j n (k-fault t c k) = refl
@@ -69,6 +71,16 @@ job-view j = go (allowed (j .t) tMost) (allowed (j .c) (j .t)) (allowed (j .k) k
           k = allowed-within (j .k) kMost ek;
           m = allowed-within (j .m) (j .k) em;
         })
+
+pub job-passes-exactly : (i : ℕ) (j : Job) → (eqb (jobTold i j .number) 0 ≡ true) ↔ SoundJob j
+job-passes-exactly i j = (go (job-view j), λ s. ap passes (sound-passes i j s))
+  where
+    passes : Told → Bool
+    passes t = eqb (t .number) 0
+
+    go : JobView j → passes (jobTold i j) ≡ true → SoundJob j
+    go (sound-job s) e = s
+    go (faulty-job n fault) e = absurd (clash (ap passes (fault-names i j n fault) ∙ fault-refuses j n fault) e)
 
 -- the first n jobs
 jobs-sound : (jobs : List Job) (n : ℕ) → SoundBelow jobs n → jobsTold jobs n ≡ passed
@@ -135,13 +147,6 @@ list-view l = go (eqb (l .count) 0) (ltb countMost (l .count)) refl refl (jobs-v
     go false false e f (faulty-jobs i r h below fault) =
         faulty-list r i
         (record { count = record { low = positive e; high = ltb-false countMost (l .count) f }; listed = h; below = below; fault = fault })
-
--- two answers of different numbers, or of different numbers of values, are not equal
-apart : {n m : ℕ} {a b : List ℕ} → row n a ≡ row m b → eqb n m ≡ false → ⊥
-apart {n} {m} e f = eqb-false n m f (ap (λ (t : Told). t .number) e)
-
-valued : {n m x : ℕ} → row n (x ∷ []) ≡ row m [] → ⊥
-valued e = let lengths : _≡_ {A = ℕ} 1 0 = ap (λ (t : Told). length (t .values)) e in omega arith
 
 pub passes-exactly : PassesExactly
 passes-exactly l = (go (list-view l), list-sound l)

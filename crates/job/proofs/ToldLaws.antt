@@ -1,16 +1,25 @@
--- `told` has an inverse, so an answer is determined by the paper's number and values; and no refusal has the number 0.
+-- `told` has an inverse, so an answer is determined by the paper's number and values; how two answers are told apart; and no refusal has the number 0.
 use mathlib.Core.Path.{_≡_, refl, sym, _∙_, ap}
-use mathlib.Core.Bool.{Bool, false, cond}
-use mathlib.Core.List.{List}
+use mathlib.Core.Bool.{false, cond}
+use mathlib.Core.List.{List, [], _∷_}
 use Prim.Native.Nat.{ℕ}
+use native.Mathlib.Omega.{arith}
 use lib.Dec.{eqb}
-use lib.ListN.{getD}
+use lib.ListN.{length, getD}
+use borrow.Author.Tests.{eqb-false}
 use Rattle.job.specs.declared.refusal.Refusal.{Refusal}
 use Rattle.job.specs.declared.refusal.Refusal.the-variants.{NoJobs, TooManyJobs, Period, Service, Window, Share, OriginalModel, CycleTooLong, Overload, StateOutOfRange, ClockAtLimit, BufferTooShort, SheetForm, JobBytes, OrderOrModel, SlotCount, SheetTooLong}
 use Rattle.job.specs.declared.refusal.Checked.{Checked}
 use Rattle.job.specs.declared.refusal.Checked.the-variants.{Passed, Refused}
-use Rattle.job.specs.Told.{Told, told, toldChecked}
+use Rattle.job.specs.Told.{Told, row, told, toldChecked}
 use Rattle.job.specs.Meaning.{RefusalOneToOne, CheckedOneToOne}
+
+-- two answers of different numbers, or of different numbers of values, are not equal
+pub apart : {n m : ℕ} {a b : List ℕ} → row n a ≡ row m b → eqb n m ≡ false → ⊥
+apart {n} {m} e f = eqb-false n m f (ap (λ (t : Told). t .number) e)
+
+pub valued : {n m x : ℕ} → row n (x ∷ []) ≡ row m [] → ⊥
+valued e = let lengths : _≡_ {A = ℕ} 1 0 = ap (λ (t : Told). length (t .values)) e in omega arith
 
 -- whatever has an inverse is one-to-one
 pub one-to-one {ℓ κ} : {A : Type ℓ} {B : Type κ} (f : A → B) (g : B → A) → ((a : A) → g (f a) ≡ a) → (a b : A) → f a ≡ f b → a ≡ b

@@ -1,6 +1,6 @@
 // The numbered refusals of document 01, every row once, with the values that the row names.
 ghost use mathlib.Core.Path.{_≡_};
-ghost use Rattle.job.specs.Told.{told};
+ghost use Rattle.job.specs.Told.{told, toldChecked};
 
 pub enum Refusal {
     // 1
@@ -43,6 +43,18 @@ pub enum Refusal {
 pub enum Checked {
     Passed,
     Refused(Refusal),
+}
+
+impl Checked {
+    // 0, or the row's number.
+    pub fn number(self) -> u32
+        ensures { λ r. ⌜ r ≡ toldChecked self .number ⌝ }
+    {
+        match self {
+            Checked::Passed => 0,
+            Checked::Refused(refusal) => refusal.number(),
+        }
+    }
 }
 
 impl Refusal {

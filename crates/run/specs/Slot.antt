@@ -6,6 +6,7 @@ use lib.Dec.{eqb}
 use lib.ListN.{set}
 use Rattle.run.specs.declared.setting.Setting.{Setting}
 use Rattle.run.specs.declared.place.Place.{Place}
+use Rattle.run.specs.declared.state.Totals.{Totals}
 use Rattle.run.specs.declared.state.State.{State}
 use Rattle.run.specs.declared.answer.Choice.{Choice}
 use Rattle.run.specs.declared.answer.Choice.the-variants.{Given, Idle}
@@ -55,13 +56,21 @@ allMoved setting places count at =
       short = countUpto (shortsAt setting places at) count;
     }
 
+-- 'Totals in the state: slots given, idle, first tags, short windows': one more slot, with the sizes of its two sets
+abbrev pub countedOf : Totals → Bool → ℕ → ℕ → Totals
+countedOf t idle tagged short =
+    record {
+      given = cond (not idle) (t .given + 1) (t .given);
+      idle = cond idle (t .idle + 1) (t .idle);
+      tags = t .tags + tagged;
+      shorts = t .shorts + short;
+    }
+
 -- the answer and the state after the slot
 unfoldable pub turnOf : State → Turned
 turnOf s =
     let at = chosenOf s in
-    let idle = eqb at 16 in
     let all = allMoved (s .setting) (s .places) (s .count) at in
-    let t = s .totals in
     record {
       slot = record { choice = choiceOf at; tags = all .tags; shorts = all .shorts };
       state =
@@ -70,12 +79,6 @@ turnOf s =
             clock = s .clock + 1;
             count = s .count;
             places = all .places;
-            totals =
-                record {
-                  given = cond (not idle) (t .given + 1) (t .given);
-                  idle = cond idle (t .idle + 1) (t .idle);
-                  tags = t .tags + all .tagged;
-                  shorts = t .shorts + all .short;
-                };
+            totals = countedOf (s .totals) (eqb at 16) (all .tagged) (all .short);
           };
     }

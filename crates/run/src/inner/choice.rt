@@ -1,7 +1,7 @@
 // The choice: the eligible place of least distance, the lower number where two are equal.
 ghost use mathlib.Core.Path.{_≡_};
 ghost use Rattle.run.specs.Sound.{SoundPlace, SoundState};
-ghost use Rattle.run.specs.Choice.{Small, distanceOf, nearerOf, betterOf, chosenOf};
+ghost use Rattle.run.specs.Choice.{Small, nobody, distanceOf, nearerOf, betterOf, chosenOf};
 use crate::inner::service::eligible;
 use crate::inner::service::numerator;
 use crate::inner::service::owed;
@@ -15,6 +15,17 @@ pub struct Held {
     pub at: usize,
     pub num: i64,
     pub den: u32,
+}
+
+// Nobody yet: farther than any fraction.
+pub fn nobody() -> Held
+    ensures { λ r. ⌜ r ≡ nobody ⌝ }
+{
+    Held {
+        at: 16,
+        num: 1,
+        den: 0,
+    }
 }
 
 // 'Order V: lowest virtual deadline'; 'Order W: soonest window end, k'T − e slots away'.
@@ -70,11 +81,7 @@ pub fn choose(state: State) -> usize
     ensures { λ r. ⌜ r ≡ chosenOf state ⌝ }
 {
     let setting = state.setting;
-    let mut best = Held {
-        at: 16,
-        num: 1,
-        den: 0,
-    };
+    let mut best = nobody();
     let mut at: usize = 0;
     while at < state.count {
         best = better(setting, best, at, state.places[at]);

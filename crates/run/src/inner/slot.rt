@@ -1,11 +1,11 @@
 // One slot of a sound state below the clock's limit.
 ghost use mathlib.Core.Path.{_≡_};
 ghost use mathlib.Core.Bool.{cond};
-ghost use Prim.Native.Nat.{_+_, _<_};
+ghost use Prim.Native.Nat.{_+_, _^_, _<_};
 ghost use Rattle.run.specs.State.{clockMost};
 ghost use Rattle.run.specs.Sound.{SoundState};
 ghost use Rattle.run.specs.Choice.{chosenOf};
-ghost use Rattle.run.specs.Slot.{choiceOf, allMoved, turnOf};
+ghost use Rattle.run.specs.Slot.{choiceOf, allMoved, countedOf, turnOf};
 use crate::answer::Choice;
 use crate::answer::Slot;
 use crate::inner::choice::choose;
@@ -29,20 +29,35 @@ pub struct Outcomes {
 }
 
 // x and `more`, where b holds.
-fn plus_if(b: bool, x: u32, more: u32) -> u32
+pub fn plus_if(b: bool, x: u32, more: u32) -> u32
     requires { ⌜ x + more < 4294967296 ⌝ }
     ensures { λ r. ⌜ r ≡ cond b (x + more) x ⌝ }
 {
     if b { x + more } else { x }
 }
 
-fn choice_of(at: usize) -> Choice
+pub fn choice_of(at: usize) -> Choice
     ensures { λ r. ⌜ r ≡ choiceOf at ⌝ }
 {
     if at == 16 {
         Choice::Idle
     } else {
         Choice::Given(at)
+    }
+}
+
+// The totals after one more slot, whose sets have `tagged` and `short` jobs.
+pub fn counted(totals: Totals, idle: bool, tagged: u32, short: u32) -> Totals
+    requires { ⌜ totals .given + totals .idle < clockMost ⌝ }
+    requires { ⌜ totals .tags + tagged < 2 ^ 64 ⌝ }
+    requires { ⌜ totals .shorts + short < 2 ^ 64 ⌝ }
+    ensures { λ r. ⌜ r ≡ countedOf totals idle tagged short ⌝ }
+{
+    Totals {
+        given: plus_if(!idle, totals.given, 1),
+        idle: plus_if(idle, totals.idle, 1),
+        tags: totals.tags + (tagged as u64),
+        shorts: totals.shorts + (short as u64),
     }
 }
 
@@ -89,12 +104,7 @@ pub fn turn(state: State) -> Turned
         tags: all.tags as u16,
         shorts: all.shorts as u16,
     };
-    let totals = Totals {
-        given: plus_if(!idle, state.totals.given, 1),
-        idle: plus_if(idle, state.totals.idle, 1),
-        tags: state.totals.tags + (all.tagged as u64),
-        shorts: state.totals.shorts + (all.short as u64),
-    };
+    let totals = counted(state.totals, idle, all.tagged, all.short);
     let places = all.places;
     let mut next = state;
     next.clock = state.clock + 1;

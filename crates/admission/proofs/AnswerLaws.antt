@@ -1,0 +1,64 @@
+-- What an answer returns, by its variant; and an answer is determined by the paper's number and values.
+use mathlib.Core.Path.{_≡_, refl, sym, _∙_, ap}
+use mathlib.Core.Bool.{false, cond}
+use mathlib.Core.List.{List, [], _∷_}
+use Prim.Native.Nat.{ℕ}
+use lib.Dec.{eqb}
+use lib.ListN.{getD}
+use types.Run.{OneOf, miss}
+use denote.Enum.Declared.{tagOf}
+use Rattle.job.specs.declared.refusal.Refusal.{Refusal}
+use Rattle.job.specs.declared.refusal.Refusal.the-variants.{NoJobs, TooManyJobs, Period, Service, Window, Share, OriginalModel, CycleTooLong, Overload, StateOutOfRange, ClockAtLimit, BufferTooShort, SheetForm, JobBytes, OrderOrModel, SlotCount, SheetTooLong}
+use Rattle.job.specs.Told.{Told, told}
+use Rattle.job.proofs.refusal.Refusal.{the-type}
+use Rattle.job.proofs.ToldLaws.{one-to-one, rowBack, row-back, told-refuses}
+use Rattle.admission.specs.declared.answer.Admission.{Admission}
+use Rattle.admission.specs.declared.answer.Admission.the-variants.{Admitted, Refused}
+use Rattle.admission.specs.Answer.{toldAdmission, returnsBoth}
+use Rattle.admission.specs.Meaning.{AdmissionOneToOne}
+
+-- what is returned of an answer is what is returned of its variant
+pub returned : (f : Told → ℕ) {a b : Admission} → a ≡ b → f (toldAdmission b) ≡ f (toldAdmission a)
+returned f e = ap (λ (x : Admission). f (toldAdmission x)) (sym e)
+
+pub refused : (f : Told → ℕ) {a : Admission} {r s : Refusal} → a ≡ Refused r → r ≡ s → f (told s) ≡ f (toldAdmission a)
+refused f e same = ap (λ (x : Refusal). f (told x)) (sym same) ∙ returned f e
+
+-- every variant but row 9's, as the code tells them apart
+abbrev pub others : List ℕ
+others = 0 ∷ 1 ∷ 2 ∷ 3 ∷ 4 ∷ 5 ∷ 6 ∷ 7 ∷ 9 ∷ 10 ∷ 11 ∷ 12 ∷ 13 ∷ 14 ∷ 15 ∷ 16 ∷ []
+
+others-return-none : (r : Refusal) → OneOf others (tagOf the-type r) → returnsBoth (told r) ≡ false
+others-return-none NoJobs k = refl
+others-return-none TooManyJobs k = refl
+others-return-none (Period j) k = refl
+others-return-none (Service j) k = refl
+others-return-none (Window j) k = refl
+others-return-none (Share j) k = refl
+others-return-none OriginalModel k = refl
+others-return-none CycleTooLong k = refl
+others-return-none (Overload h d) k = absurd (miss others 8 tt k)
+others-return-none StateOutOfRange k = refl
+others-return-none ClockAtLimit k = refl
+others-return-none BufferTooShort k = refl
+others-return-none (SheetForm p) k = refl
+others-return-none JobBytes k = refl
+others-return-none OrderOrModel k = refl
+others-return-none SlotCount k = refl
+others-return-none SheetTooLong k = refl
+
+pub refused-otherwise :
+    {a : Admission} {r : Refusal} → a ≡ Refused r → OneOf others (tagOf the-type r) → returnsBoth (toldAdmission a) ≡ false
+refused-otherwise {r = r} e k = ap (λ (x : Admission). returnsBoth (toldAdmission x)) e ∙ others-return-none r k
+
+-- the way back from number and values
+admissionBack : Told → Admission
+admissionBack t = cond (eqb (t .number) 0) (Admitted (getD (t .values) 0 0) (getD (t .values) 1 0)) (Refused (rowBack t))
+
+admission-back : (a : Admission) → admissionBack (toldAdmission a) ≡ a
+unfolding admissionBack
+admission-back (Admitted h d) = refl
+admission-back (Refused r) = rw (told-refuses r) (ap Refused (row-back r))
+
+pub admission-one-to-one : AdmissionOneToOne
+admission-one-to-one = one-to-one toldAdmission admissionBack admission-back

@@ -1,0 +1,32 @@
+-- `Admission::cycle` meets its contract, variant by variant. Assumes nothing.
+use borrow.Author.Needs.{needs}
+use Rattle.admission.specs.Answer.{cycleReturned}
+use Rattle.admission.proofs.AnswerLaws.{returned, refused, refused-otherwise}
+use Rattle.admission.proofs.answer.Admission.cycle.Statement.{statement}
+use Rattle.admission.proofs.answer.Admission.cycle.Tie as tie
+
+enum-known-self : tie.Need-enum-known-self
+enum-known-self c = search needs
+
+enum-known-self-2 : tie.Need-enum-known-self-2
+enum-known-self-2 c = search needs
+
+enum-known-refusal : tie.Need-enum-known-refusal
+enum-known-refusal c = search needs
+
+returns : tie.Need-returns
+unfolding cycleReturned
+returns c = returned cycleReturned (c .before .self .given .1)
+
+returns-2 : tie.Need-returns-2
+unfolding cycleReturned
+returns-2 c = refused cycleReturned (c .before .before .before .before .self2 .given .1) (c .before .refusal .given .1)
+
+returns-3 : tie.Need-returns-3
+unfolding cycleReturned
+returns-3 c = rw (refused-otherwise (c .before .before .self2 .given .1) (c .match2 .keys2))
+
+pub cycle-spec : {M : Type 1} → statement M
+cycle-spec =
+    tie.close
+    (tie.spec enum-known-self enum-known-self-2 enum-known-refusal returns returns-2 returns-3)

@@ -1,0 +1,60 @@
+-- The definitions of one place, by the tests that they make, and of the choice, by one place more.
+use mathlib.Core.Path.{_≡_, ap, _∙_}
+use mathlib.Core.Bool.{Bool, false, _&&_, cond}
+use mathlib.Core.List.{List}
+use Prim.Native.Nat.{ℕ, _+_, _-_, _*_, _/_}
+use native.Mathlib.Numerals.{add-one}
+use lib.Dec.{ltb, eqb}
+use lib.IntN.{pos}
+use Rattle.run.specs.declared.setting.Setting.{Setting}
+use Rattle.run.specs.declared.place.Place.{Place}
+use Rattle.run.specs.declared.inner.choice.Held.{Held}
+use Rattle.run.specs.Setting.{inRelaxed, inOrderV}
+use Rattle.run.specs.State.{placeAt}
+use Rattle.run.specs.Place.{placed, windowLeft, finishedOf, owedOf, eligibleOf, numeratorOf, servedOf, turnedOf}
+use Rattle.run.specs.Choice.{distanceOf, betterOf, heldUpto}
+
+module _ (setting : Setting) (q : Place) where
+  pub finished-by : (b : Bool) → inRelaxed setting ≡ b → cond b (q .at .u / q .job .c) (q .at .s) ≡ finishedOf setting q
+  unfolding finishedOf
+  finished-by b e = rw e
+
+  pub eligible-by :
+      (b : Bool) → inRelaxed setting ≡ b
+      → cond b (ltb (q .at .u) (q .job .m * q .job .c) && ltb (q .at .u) (q .at .p * q .job .c))
+      (ltb (q .at .s) (q .job .m) && ltb (q .at .v) (q .job .c))
+      ≡ eligibleOf setting q
+  unfolding eligibleOf
+  eligible-by b e = rw e
+
+  pub served-by :
+      (b full : Bool) → inRelaxed setting ≡ b → eqb (q .at .v + 1) (q .job .c) ≡ full
+      → cond b (placed q (q .at .e) (q .at .p) (q .at .u + 1) (q .at .s) (q .at .v) (q .at .tag))
+      (placed q (q .at .e) (q .at .p) (q .at .u) (cond full (q .at .s + 1) (q .at .s)) (q .at .v + 1) (q .at .tag))
+      ≡ servedOf setting q
+  unfolding servedOf
+  served-by b full e f = rw (e, f)
+
+  pub distance-by :
+      (i : ℕ) (b : Bool) → inOrderV setting ≡ b
+      → cond {A = Held} b (record { at = i; num = numeratorOf setting q; den = owedOf setting q })
+      (record { at = i; num = pos (windowLeft q - q .at .e); den = 1 })
+      ≡ distanceOf setting i q
+  unfolding distanceOf
+  distance-by i b e = rw e
+
+pub turned-by :
+    (q : Place) (inside on : Bool) → ltb (q .at .e + 1) (q .job .t) ≡ inside → ltb (q .at .p) (q .job .k) ≡ on
+    → cond inside (placed q (q .at .e + 1) (q .at .p) (q .at .u) (q .at .s) (q .at .v) (q .at .tag))
+    (cond on (placed q 0 (q .at .p + 1) (q .at .u) (q .at .s) 0 (q .at .tag)) (placed q 0 1 0 0 0 false))
+    ≡ turnedOf q
+unfolding turnedOf
+turned-by q inside on e f = rw (e, f)
+
+-- one place more
+pub held-more :
+    (setting : Setting) (places : List Place) (i : ℕ) {best next : Held} → best ≡ heldUpto setting places i
+    → next ≡ betterOf setting best i (placeAt places i) → next ≡ heldUpto setting places (i + 1)
+unfolding heldUpto
+held-more setting places i e f =
+    rw (add-one i) (f ∙ ap (λ (h : Held). betterOf setting h i (placeAt places i)) e)

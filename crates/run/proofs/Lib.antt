@@ -1,0 +1,23 @@
+-- Laws beside the functions' own proofs, each over the setting: never once for each order or model.
+pub mod CondLaws
+pub mod SignedLaws
+pub mod BoundLaws
+pub mod CaseLaws
+pub mod SlotLaws
+pub mod PlaceLaws
+pub mod DistanceLaws
+pub mod ChoiceLaws
+pub mod MovingLaws
+pub mod KeepLaws
+pub mod SetLaws
+pub mod RangeLaws
+pub mod FreshLaws
+pub mod StartLaws
+pub mod AnswerLaws
+pub mod BytesLaws
+pub mod CycleLaws
+pub mod CounterLaws
+pub mod HistoryLaws
+pub mod TurnLaws
+pub mod RunLaws
+pub mod RunHistory

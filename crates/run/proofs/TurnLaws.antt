@@ -1,0 +1,122 @@
+-- One slot of a sound state, told by the byte of its choice.
+use mathlib.Core.Path.{_≡_, refl, sym, ap, _∙_}
+use mathlib.Core.Bool.{Bool, true, false, not, cond}
+use Prim.Native.Nat.{ℕ, _+_, _<_}
+use native.Mathlib.Omega.{arith}
+use lib.Dec.{eqb, ltb}
+use borrow.Author.Tests.{eqb-true, eqb-false, eq-eqb, ne-eqb, lt-ltb, le-ltb}
+use Rattle.run.specs.declared.state.State.{State}
+use Rattle.run.specs.declared.answer.Choice.the-variants.{Given}
+use Rattle.run.specs.State.{placeAt}
+use Rattle.run.specs.Place.{eligibleOf, movedOf}
+use Rattle.run.specs.Choice.{chosenOf}
+use Rattle.run.specs.Slot.{choiceOf, tagsAt, shortsAt, allMoved, turnOf}
+use Rattle.run.specs.Sound.{SoundState}
+use Rattle.run.specs.Answer.{byteOf}
+use Rattle.run.specs.Bytes.{idleByte}
+use Rattle.run.specs.History.{sizeOf}
+use Rattle.run.specs.Meaning.{Chosen}
+use Rattle.run.proofs.ChoiceLaws.{given-exactly}
+use Rattle.run.proofs.SlotLaws.{size-mask}
+use Rattle.run.proofs.KeepLaws.{turn-place as turn-moved}
+
+-- what the slot leaves as it is, and the clock
+module _ (s : State) where
+  pub turn-setting : turnOf s .state .setting ≡ s .setting
+  unfolding turnOf
+  turn-setting = refl
+
+  pub turn-count : turnOf s .state .count ≡ s .count
+  unfolding turnOf
+  turn-count = refl
+
+  pub turn-clock : turnOf s .state .clock ≡ s .clock + 1
+  unfolding turnOf
+  turn-clock = refl
+
+test-same : (a b : ℕ) → eqb a b ≡ eqb b a
+test-same a b = go (eqb b a) refl
+  where
+    go : (t : Bool) → eqb b a ≡ t → eqb a b ≡ t
+    go true e = eq-eqb a b (sym (eqb-true b a e))
+    go false e = ne-eqb a b (λ same. eqb-false b a e (sym same))
+
+-- the byte b of the slot that a state is before: the place chosen, which is eligible, or idle
+pub data Byte (s : State) (b : ℕ) : Type 0 where
+  names : b ≡ chosenOf s → b < s .count → eligibleOf (s .setting) (placeAt (s .places) b) ≡ true → Byte s b
+  idles : b ≡ idleByte → chosenOf s ≡ 16 → Byte s b
+
+abbrev pub nextByte : State → ℕ
+nextByte s = byteOf (turnOf s .slot .choice)
+
+module _ (s : State) (sound : SoundState s) where
+  pub byte-view : Byte s (nextByte s)
+  unfolding turnOf choiceOf
+  byte-view = go (eqb (chosenOf s) 16) refl
+    where
+      go : (t : Bool) → eqb (chosenOf s) 16 ≡ t → Byte s (nextByte s)
+      go true e = rw e (idles refl (eqb-true (chosenOf s) 16 e))
+      go false e =
+          let given : turnOf s .slot .choice ≡ Given (chosenOf s) = rw e in
+          let chosen : Chosen s (chosenOf s) = given-exactly s sound (chosenOf s) .0 given in
+          rw e (names refl (chosen .listed) (chosen .is-eligible))
+
+  pub byte-given : ltb (nextByte s) (s .count) ≡ not (eqb (chosenOf s) 16)
+  byte-given = go byte-view
+    where
+      go : Byte s (nextByte s) → ltb (nextByte s) (s .count) ≡ not (eqb (chosenOf s) 16)
+      go (names is listed eligible) =
+          rw (lt-ltb (nextByte s) (s .count) listed, ne-eqb (chosenOf s) 16 (omega arith))
+      go (idles is none) = rw (le-ltb (nextByte s) (s .count) (omega arith), eq-eqb (chosenOf s) 16 none)
+
+  pub byte-idle : eqb (nextByte s) idleByte ≡ eqb (chosenOf s) 16
+  byte-idle = go byte-view
+    where
+      go : Byte s (nextByte s) → eqb (nextByte s) idleByte ≡ eqb (chosenOf s) 16
+      go (names is listed eligible) =
+          rw (ne-eqb (nextByte s) idleByte (omega arith), ne-eqb (chosenOf s) 16 (omega arith))
+      go (idles is none) = rw (eq-eqb (nextByte s) idleByte is, eq-eqb (chosenOf s) 16 none)
+
+  module _ (i : ℕ) (listed : i < s .count) where
+    pub byte-at : eqb (nextByte s) i ≡ eqb i (chosenOf s)
+    byte-at = go byte-view
+      where
+        go : Byte s (nextByte s) → eqb (nextByte s) i ≡ eqb i (chosenOf s)
+        go (names is below eligible) = ap (λ (x : ℕ). eqb x i) is ∙ test-same (chosenOf s) i
+        go (idles is none) = rw (ne-eqb (nextByte s) i (omega arith), ne-eqb i (chosenOf s) (omega arith))
+
+    pub byte-fair : eqb (nextByte s) i ≡ true → eligibleOf (s .setting) (placeAt (s .places) i) ≡ true
+    byte-fair e = go byte-view
+      where
+        same : nextByte s ≡ i
+        same = eqb-true (nextByte s) i e
+
+        go : Byte s (nextByte s) → eligibleOf (s .setting) (placeAt (s .places) i) ≡ true
+        go (names is below eligible) = rw (← same) eligible
+        go (idles is none) = absurd (omega (arith, same))
+
+  -- the totals and the places after the slot
+  pub turn-given :
+      turnOf s .state .totals .given ≡ cond (ltb (nextByte s) (s .count)) (s .totals .given + 1) (s .totals .given)
+  unfolding turnOf
+  turn-given = rw byte-given
+
+  pub turn-idle :
+      turnOf s .state .totals .idle ≡ cond (eqb (nextByte s) idleByte) (s .totals .idle + 1) (s .totals .idle)
+  unfolding turnOf
+  turn-idle = rw byte-idle
+
+  pub turn-tags : turnOf s .state .totals .tags ≡ s .totals .tags + sizeOf (turnOf s .slot .tags)
+  unfolding turnOf allMoved
+  turn-tags =
+      rw (size-mask (tagsAt (s .setting) (s .places) (chosenOf s)) (s .count) (sound .count .high))
+
+  pub turn-shorts : turnOf s .state .totals .shorts ≡ s .totals .shorts + sizeOf (turnOf s .slot .shorts)
+  unfolding turnOf allMoved
+  turn-shorts =
+      rw (size-mask (shortsAt (s .setting) (s .places) (chosenOf s)) (s .count) (sound .count .high))
+
+  pub turn-place :
+      (i : ℕ) → i < s .count
+      → placeAt (turnOf s .state .places) i ≡ movedOf (s .setting) (placeAt (s .places) i) (eqb (nextByte s) i) .place
+  turn-place i listed = rw (byte-at i listed) (turn-moved s sound i listed)

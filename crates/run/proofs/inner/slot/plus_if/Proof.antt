@@ -1,0 +1,17 @@
+-- `plus_if` meets its contract. Assumes nothing.
+use mathlib.Core.Path.{refl}
+use borrow.Author.Needs.{needs}
+use Rattle.run.proofs.inner.slot.plus_if.Statement.{statement}
+use Rattle.run.proofs.inner.slot.plus_if.Tie as tie
+
+add-result : tie.Need-add-result
+add-result c = search needs
+
+returns : tie.Need-returns
+returns c = simp (c .if1 .taken)
+
+returns-2 : tie.Need-returns-2
+returns-2 c = search needs
+
+pub plus-if-spec : {M : Type 1} → statement M
+plus-if-spec = tie.close (tie.spec add-result returns returns-2)

@@ -1,0 +1,2 @@
+-- What the contract of the timetable writer says.
+pub mod Table

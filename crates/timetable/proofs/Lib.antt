@@ -1,0 +1,2 @@
+-- Laws beside the functions' own proofs.
+pub mod FillLaws

@@ -1,2 +1,3 @@
 -- Laws beside the functions' own proofs.
 pub mod FillLaws
+pub mod WriteLaws

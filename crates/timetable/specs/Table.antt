@@ -28,4 +28,4 @@ writeState s len offset n = cond (writes s len offset n) (afterSlots s n) s
 
 unfoldable pub writeBytes : State → List ℕ → ℕ → ℕ → List ℕ
 writeBytes s bytes offset n =
-    cond (writes s (length bytes) offset n) (take offset bytes ++ choicesOf s n ++ drop (offset + n) bytes) bytes
+    cond (writes s (length bytes) offset n) (take offset bytes ++ (choicesOf s n ++ drop (offset + n) bytes)) bytes

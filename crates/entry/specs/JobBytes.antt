@@ -1,0 +1,32 @@
+-- 'job bytes, 6 a job: C and T (16 bits, low byte first), m, k': a list of jobs from bytes of any length.
+use Prim.Native.Nat.{ℕ, zero, suc, _+_, _*_, _/_, min}
+use mathlib.Core.List.{List}
+use lib.ListN.{length, getD, set, replicate}
+use Rattle.job.specs.declared.record.Job.{Job}
+use Rattle.job.specs.declared.list.JobList.{JobList}
+use Rattle.job.specs.Limit.{countMost}
+use Rattle.job.specs.Check.{noJob}
+
+abbrev pub byteAt : List ℕ → ℕ → ℕ
+byteAt bytes i = getD bytes i 0
+
+-- '16 bits, low byte first'
+abbrev pub pairAt : List ℕ → ℕ → ℕ
+pairAt bytes i = byteAt bytes i + 256 * byteAt bytes (i + 1)
+
+abbrev pub jobFrom : List ℕ → ℕ → Job
+jobFrom bytes i =
+    record {
+      c = pairAt bytes (i * 6);
+      t = pairAt bytes (i * 6 + 2);
+      m = byteAt bytes (i * 6 + 4);
+      k = byteAt bytes (i * 6 + 5);
+    }
+
+-- the first n jobs in their records
+unfoldable pub jobsUpto : List ℕ → ℕ → List Job
+jobsUpto bytes zero = replicate 16 noJob
+jobsUpto bytes (suc n) = set (jobsUpto bytes n) n (jobFrom bytes n)
+
+abbrev pub listFrom : List ℕ → JobList
+listFrom bytes = record { jobs = jobsUpto bytes (min (length bytes / 6) countMost); count = length bytes / 6 }

@@ -1,0 +1,15 @@
+// Admission of job bytes.
+ghost use mathlib.Core.Path.{_≡_};
+ghost use Rattle.entry.specs.Entry.{admitTold};
+use crate::jobs::list_from;
+
+// Tests 14, then those of admission. Returns 0 or the refusal's number.
+#[no_mangle]
+pub extern "C" fn filbertoss_admit(jobs: &[u8], model: u32) -> u32
+    ensures { λ r. ⌜ r ≡ admitTold (now (jobs .entry)) model .number ⌝ }
+{
+    if jobs.len() % 6 != 0 {
+        return 14;
+    }
+    admission::verdict(list_from(jobs), model).number()
+}

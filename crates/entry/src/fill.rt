@@ -22,11 +22,13 @@ pub extern "C" fn filbertoss_fill(
         return 14;
     }
     let started = run::start(list_from(jobs), Setting { order, model });
-    let refused = started.answer.number();
+    let start_answer = started.answer;
+    let refused = start_answer.number();
     if refused != 0 {
         return refused;
     }
-    timetable::write(started.state, buf, offset, n)
-        .answer
-        .number()
+    let state = started.state;
+    let written = timetable::write(state, buf, offset, n);
+    let write_answer = written.answer;
+    write_answer.number()
 }

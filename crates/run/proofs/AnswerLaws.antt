@@ -1,4 +1,4 @@
--- What the answer of a step says: it is determined by the paper's number and values, and rows 10 and 11 are given exactly when ..
+-- What the answer of a step says: the number and the values of document 01 determine it, and when rows 10 and 11 are given.
 use mathlib.Core.Path.{_≡_, refl, sym, _∙_, ap}
 use mathlib.Core.Bool.{Bool, true, false, cond}
 use mathlib.Core.Logic.{_↔_}

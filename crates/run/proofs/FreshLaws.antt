@@ -6,10 +6,10 @@ use Prim.Native.Nat.{ℕ, zero, suc, _+_, min, _≤_, _<_}
 use native.Mathlib.Numerals.{add-one}
 use native.Mathlib.Decide.{ℕ-discrete}
 use native.Mathlib.Omega.{arith}
-use lib.Dec.{leb, ltb}
+use lib.Dec.{ltb}
 use lib.ListN.{length, set, replicate, length-set}
 use lib.Seq.{getD-set-same, getD-set-other}
-use borrow.Author.Tests.{ltb-true, ltb-false, leb-true}
+use borrow.Author.Tests.{ltb-true, ltb-false}
 use Rattle.job.specs.declared.record.Job.{Job}
 use Rattle.job.specs.declared.list.JobList.{JobList}
 use Rattle.job.specs.Limit.{countMost, original}
@@ -19,9 +19,10 @@ use Rattle.job.proofs.TestLaws.{clash, both}
 use Rattle.run.specs.declared.setting.Setting.{Setting}
 use Rattle.run.specs.declared.place.Place.{Place}
 use Rattle.run.specs.declared.state.State.{State}
-use Rattle.run.specs.Setting.{orderW, settingAllowed}
+use Rattle.run.specs.Setting.{settingAllowed}
 use Rattle.run.specs.State.{blank, placeAt, opened, zeros, freshUpto, freshOf}
 use Rattle.run.specs.Sound.{SoundPlace, SoundState}
+use Rattle.run.proofs.RangeLaws.{setting-facts}
 use Rattle.run.proofs.PlaceLaws.{opened-sound}
 
 -- a walk under two bounds
@@ -96,22 +97,30 @@ module _ (jobs : List Job) where
   fresh-past (suc n) i h =
       getD-set-other (freshUpto jobs n) n i (opened (jobAt jobs n)) blank (omega arith) ∙ fresh-past n i (omega arith)
 
+-- the fresh state of a list
+module _ (l : JobList) (s : Setting) (few : l .count ≤ countMost) where
+  all : min (l .count) countMost ≡ l .count
+  all = omega arith
+
+  pub fresh-listed : (i : ℕ) → i < l .count → placeAt (freshOf l s .places) i ≡ opened (jobAt (l .jobs) i)
+  fresh-listed i h = rw all (fresh-at (l .jobs) (l .count) i h few)
+
+  pub fresh-blank : (i : ℕ) → l .count ≤ i → placeAt (freshOf l s .places) i ≡ blank
+  fresh-blank i past = rw all (fresh-past (l .jobs) (l .count) i past)
+
 -- the fresh state of a sound list is sound
 pub fresh-sound : (l : JobList) (s : Setting) → SoundList l → settingAllowed s ≡ true → SoundState (freshOf l s)
 fresh-sound l s sound allowed =
-    let tests = both (leb (s .order) orderW) (leb (s .model) original) allowed in
-    let model = leb-true (s .model) original (tests .1) in
-    let all : min (l .count) countMost ≡ l .count = omega (arith, sound .count .high) in
+    let setting = setting-facts s allowed in
+    let few = sound .count .high in
     record {
       long = fresh-long (l .jobs) (min (l .count) countMost);
-      order = leb-true (s .order) orderW (tests .0);
-      model = model;
+      order = setting .0;
+      model = setting .1;
       clock-high = omega arith;
       count = sound .count;
-      places =
-          λ i h.
-          rw (all, fresh-at (l .jobs) (l .count) i h (sound .count .high)) (opened-sound model (sound .jobs i h));
-      blanks = λ i past h. rw all (fresh-past (l .jobs) (l .count) i past);
+      places = λ i h. rw (fresh-listed l s few i h) (opened-sound (setting .1) (sound .jobs i h));
+      blanks = λ i past h. fresh-blank l s few i past;
       slots = refl;
       tags-high = omega arith;
       shorts-high = omega arith;

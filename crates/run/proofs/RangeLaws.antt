@@ -1,9 +1,9 @@
 -- The ranges of a state: the test of row 10 and the facts of specs/Sound.
 use mathlib.Core.Path.{_≡_, refl, sym, _∙_, ap}
 use mathlib.Core.Bool.{Bool, true, false, _&&_, not, cond}
-use Prim.Native.Nat.{ℕ, zero, suc, _+_, _*_, _≤_, _<_}
 use mathlib.Core.Logic.{_↔_}
 use mathlib.Core.List.{List}
+use Prim.Native.Nat.{ℕ, zero, suc, _+_, _*_, _≤_, _<_}
 use native.Mathlib.Numerals.{add-one}
 use native.Mathlib.Nat.{mul-le-mul}
 use native.Mathlib.Omega.{arith}
@@ -13,15 +13,15 @@ use borrow.Author.Count.{below-more}
 use borrow.Author.Tests.{not-true, ltb-true, ltb-false, leb-true, eqb-true, eqb-false, lt-ltb, le-ltb, le-leb, eq-eqb, ne-eqb}
 use mir.Syntax.{w64}
 use mir.Val.{Fits}
+use Rattle.job.specs.Limit.{countMost, relaxed, original}
 use Rattle.job.proofs.TestLaws.{both}
 use Rattle.job.proofs.Meaning.{job-passes-exactly}
-use Rattle.job.specs.Limit.{countMost, relaxed, original}
 use Rattle.run.specs.declared.setting.Setting.{Setting}
 use Rattle.run.specs.declared.place.Place.{Place}
 use Rattle.run.specs.declared.state.Totals.{Totals}
 use Rattle.run.specs.declared.state.State.{State}
-use Rattle.run.specs.State.{clockMost, setsMost, blank, placeAt}
 use Rattle.run.specs.Setting.{orderW, settingAllowed, inRelaxed}
+use Rattle.run.specs.State.{clockMost, setsMost, blank, placeAt}
 use Rattle.run.specs.Sound.{RelaxedService, OriginalService, SoundPlace, SoundState}
 use Rattle.run.specs.Range.{jobPasses, serviceInRange, progressInRange, placeBlank, placeInRange, placesInRange, totalsInRange, stateInRange}
 use Rattle.run.specs.Meaning.{RangeExactly}
@@ -133,12 +133,12 @@ module _ (q : Place) where
 
 module _ (setting : Setting) (q : Place) where
   -- the service, in each model
-  pub service-relaxed : setting .model ≡ relaxed → (serviceInRange setting q ≡ true) ↔ RelaxedService q
+  service-relaxed : setting .model ≡ relaxed → (serviceInRange setting q ≡ true) ↔ RelaxedService q
   service-relaxed e =
       let same = by-model setting q true _ (eq-eqb (setting .model) relaxed e) refl in
       (λ t. relaxed-facts q (sym same ∙ t), λ r. same ∙ relaxed-test q r)
 
-  pub service-original : setting .model ≡ original → (serviceInRange setting q ≡ true) ↔ OriginalService q
+  service-original : setting .model ≡ original → (serviceInRange setting q ≡ true) ↔ OriginalService q
   service-original e = go (eqb (q .at .v) (q .job .c)) refl
     where
       go : (full : Bool) → eqb (q .at .v) (q .job .c) ≡ full → (serviceInRange setting q ≡ true) ↔ OriginalService q
@@ -259,6 +259,12 @@ totals-facts clock t e =
       leb-true (t .shorts) (setsMost * clock) (last .1),
     )
 
+-- the setting
+pub setting-facts : (s : Setting) → settingAllowed s ≡ true → (s .order ≤ orderW) × (s .model ≤ original)
+setting-facts s e =
+    let tests = both (leb (s .order) orderW) (leb (s .model) original) e in
+    (leb-true (s .order) orderW (tests .0), leb-true (s .model) original (tests .1))
+
 -- the state
 state-facts : (s : State) → stateInRange s ≡ true → SoundState s
 unfolding stateInRange
@@ -267,17 +273,16 @@ state-facts s e =
     let tested = placesInRange (s .setting) (s .count) (s .places) countMost in
     let last = four fixed (leb (s .count) countMost) tested (totalsInRange (s .clock) (s .totals)) e in
     let first = four (eqb (length (s .places)) countMost) (settingAllowed (s .setting)) (leb (s .clock) clockMost) (leb 1 (s .count)) (last .0) in
-    let setting = both (leb (s .setting .order) orderW) (leb (s .setting .model) original) (first .1) in
-    let model = leb-true (s .setting .model) original (setting .1) in
+    let setting = setting-facts (s .setting) (first .1) in
     let few = leb-true (s .count) countMost (last .1) in
     let totals = totals-facts (s .clock) (s .totals) (last .3) in
     record {
       long = eqb-true (length (s .places)) countMost (first .0);
-      order = leb-true (s .setting .order) orderW (setting .0);
-      model = model;
+      order = setting .0;
+      model = setting .1;
       clock-high = leb-true (s .clock) clockMost (first .2);
       count = record { low = leb-true 1 (s .count) (first .3); high = few };
-      places = listed-facts (s .setting) (s .count) (s .places) model (last .2) few;
+      places = listed-facts (s .setting) (s .count) (s .places) (setting .1) (last .2) few;
       blanks = blanks-facts (s .setting) (s .count) (s .places) (last .2);
       slots = totals .0;
       tags-high = totals .1;

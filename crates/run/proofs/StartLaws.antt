@@ -18,13 +18,13 @@ use Rattle.run.specs.Meaning.{StartRowFifteen, StartChecks, StartSound}
 use Rattle.run.proofs.FreshLaws.{fresh-sound}
 
 -- the answer
-pub start-checks : StartChecks
-unfolding startTold
-start-checks l s e = rw e
-
 pub not-started : (l : JobList) (s : Setting) → settingAllowed s ≡ false → startTold l s ≡ row 15 []
 unfolding startTold
 not-started l s e = rw e
+
+pub start-checks : StartChecks
+unfolding startTold
+start-checks l s e = rw e
 
 -- the state, by the answer
 state-by : (l : JobList) (s : Setting) (t : Told) → startTold l s ≡ t → startState l s ≡ cond (eqb (t .number) 0) (freshOf l s) zeros

@@ -1,13 +1,13 @@
 -- `job_passes` meets its contract: in each arm the answer is that arm's variant. Assumes nothing.
 use mathlib.Core.Path.{_≡_, sym, _∙_, ap}
 use lib.Dec.{eqb}
+use borrow.Author.Needs.{needs}
 use Rattle.job.specs.declared.record.Job.{Job}
 use Rattle.job.specs.declared.refusal.Checked.{Checked}
 use Rattle.job.specs.Told.{Told, toldChecked}
 use Rattle.job.specs.Check.{jobTold}
 use Rattle.job.proofs.ToldLaws.{told-refuses}
 use Rattle.run.specs.Range.{jobPasses}
-use borrow.Author.Needs.{needs}
 use Rattle.run.proofs.range.job_passes.Statement.{statement}
 use Rattle.run.proofs.range.job_passes.Tie as tie
 

@@ -1,6 +1,6 @@
 -- `place_in_range` meets its contract, for a listed place and for one past the last job. Assumes nothing.
-use Rattle.run.specs.Range.{placeInRange}
 use borrow.Author.Needs.{needs}
+use Rattle.run.specs.Range.{placeInRange}
 use Rattle.run.proofs.range.place_in_range.Statement.{statement}
 use Rattle.run.proofs.range.place_in_range.Tie as tie
 

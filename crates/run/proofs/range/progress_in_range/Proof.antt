@@ -1,6 +1,6 @@
 -- `progress_in_range` meets its contract: its tests are those of the definition. Assumes nothing.
-use Rattle.run.specs.Range.{progressInRange}
 use borrow.Author.Needs.{needs}
+use Rattle.run.specs.Range.{progressInRange}
 use Rattle.run.proofs.range.progress_in_range.Statement.{statement}
 use Rattle.run.proofs.range.progress_in_range.Tie as tie
 

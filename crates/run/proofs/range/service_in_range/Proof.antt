@@ -3,8 +3,8 @@ use mathlib.Core.Path.{refl, sym}
 use mathlib.Core.Bool.{true, false}
 use native.Mathlib.Omega.{arith}
 use borrow.Author.Tests.{eq-eqb, ne-eqb}
-use Rattle.run.proofs.RangeLaws.{product-fits, by-model}
 use borrow.Author.Needs.{needs}
+use Rattle.run.proofs.RangeLaws.{product-fits, by-model}
 use Rattle.run.proofs.range.service_in_range.Statement.{statement}
 use Rattle.run.proofs.range.service_in_range.Tie as tie
 

@@ -1,0 +1,67 @@
+-- The form of a sheet, as text that its values make: no reader is mentioned.
+use Prim.Native.Nat.{ℕ, _≤_, _<_}
+use mathlib.Core.Path.{_≡_}
+use mathlib.Core.Bool.{cond}
+use mathlib.Core.List.{List, [], _∷_, _++_}
+use lib.Dec.{eqb}
+use lib.ListN.{length}
+use Rattle.job.specs.declared.record.Job.{Job}
+use Rattle.job.specs.Limit.{relaxed, original}
+use Rattle.job.specs.Check.{jobAt}
+use Rattle.run.specs.declared.setting.Setting.{Setting}
+use Rattle.run.specs.Setting.{orderV, orderW}
+use Rattle.text.specs.Ascii.{ascii}
+use Rattle.text.specs.Decimal.{decimalOf}
+
+-- 'Numbers are 0 or up to 5 digits with no leading zero.'
+abbrev pub numberMost : ℕ
+numberMost = 99999
+
+-- 'First line: V or W, R (relaxed) or O (original), slot count'
+abbrev pub orderLetter : ℕ → List ℕ
+orderLetter order = cond (eqb order orderV) (ascii "V") (ascii "W")
+
+abbrev pub modelLetter : ℕ → List ℕ
+modelLetter model = cond (eqb model relaxed) (ascii "R") (ascii "O")
+
+-- 'Single spaces, each line ended by a line feed'
+unfoldable pub firstLine : Setting → ℕ → List ℕ
+firstLine s slots =
+    orderLetter (s .order) ++ (ascii " " ++ (modelLetter (s .model) ++ (ascii " " ++ (decimalOf slots ++ ascii "\n"))))
+
+-- 'a line per job, C T m k'
+unfoldable pub jobLine : Job → List ℕ
+jobLine j =
+    decimalOf (j .c)
+    ++ (ascii " " ++ (decimalOf (j .t) ++ (ascii " " ++ (decimalOf (j .m) ++ (ascii " " ++ (decimalOf (j .k) ++ ascii "\n"))))))
+
+-- 'the form allows any number of job lines, none too'
+unfoldable pub jobLines : List Job → List ℕ
+jobLines [] = []
+jobLines (j ∷ jobs) = jobLine j ++ jobLines jobs
+
+pub record SmallJob (j : Job) : Type 0 where
+  pub c : j .c ≤ numberMost
+  pub t : j .t ≤ numberMost
+  pub m : j .m ≤ numberMost
+  pub k : j .k ≤ numberMost
+
+-- the bytes are the sheet of these values
+pub record SheetOf (bytes : List ℕ) (s : Setting) (slots : ℕ) (jobs : List Job) : Type 0 where
+  pub order : s .order ≤ orderW
+  pub model : s .model ≤ original
+  pub slots-small : slots ≤ numberMost
+  pub jobs-small : (i : ℕ) → i < length jobs → SmallJob (jobAt jobs i)
+  pub text : bytes ≡ firstLine s slots ++ jobLines jobs
+
+-- some sheet
+pub record IsSheet (bytes : List ℕ) : Type 0 where
+  pub setting : Setting
+  pub slots : ℕ
+  pub jobs : List Job
+  pub is : SheetOf bytes setting slots jobs
+
+-- some sheet begins with the bytes
+pub record Begins (bytes : List ℕ) : Type 0 where
+  pub rest : List ℕ
+  pub sheet : IsSheet (bytes ++ rest)

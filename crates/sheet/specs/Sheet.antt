@@ -1,0 +1,27 @@
+-- What a sheet holds once read, and its own tests: 16, then 1 to 6.
+use Prim.Native.Nat.{ℕ}
+use mathlib.Core.Bool.{Bool, _||_, cond}
+use mathlib.Core.List.{List, []}
+use lib.Dec.{ltb, eqb}
+use lib.ListN.{replicate}
+use Rattle.job.specs.Told.{Told, row}
+use Rattle.job.specs.Check.{noJob, listTold}
+use Rattle.sheet.specs.declared.reading.Sheet.{Sheet}
+
+abbrev pub bytesMost : ℕ
+bytesMost = 4096
+
+abbrev pub slotsMost : ℕ
+slotsMost = 4096
+
+abbrev pub blankSheet : Sheet
+blankSheet =
+    record {
+      setting = record { order = 0; model = 0 };
+      slots = 0;
+      list = record { jobs = replicate 16 noJob; count = 0 };
+    }
+
+-- '16: sheet's slot count 0 or above 4,096'
+unfoldable pub sheetTold : Sheet → Told
+sheetTold s = cond (eqb (s .slots) 0 || ltb slotsMost (s .slots)) (row 16 []) (listTold (s .list))

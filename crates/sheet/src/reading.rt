@@ -1,0 +1,100 @@
+// A whole sheet. Tests 17, 13, 16, 1 to 6.
+ghost use mathlib.Core.Path.{_≡_};
+ghost use Rattle.job.specs.Told.{toldChecked};
+ghost use Rattle.sheet.specs.Sheet.{blankSheet, sheetTold};
+ghost use Rattle.sheet.specs.Answer.{readTold, readSheet};
+use crate::reader::Reader;
+use job::Checked;
+use job::Job;
+use job::JobList;
+use job::Refusal;
+use run::Setting;
+
+pub struct Sheet {
+    pub setting: Setting,
+    pub slots: u32,
+    pub list: JobList,
+}
+
+pub struct Read {
+    pub answer: Checked,
+    pub sheet: Sheet,
+}
+
+impl Sheet {
+    // 'sheet over 4,096 bytes' and 'slot count 0 or above 4,096' are refused.
+    pub const BYTES_MOST: usize = 4096;
+
+    pub const SLOTS_MOST: u32 = 4096;
+
+    // The sheet of all zeros, which stands beside a refusal.
+    pub fn blank() -> Sheet
+        ensures { λ r. ⌜ r ≡ blankSheet ⌝ }
+    {
+        let none = Job {
+            c: 0,
+            t: 0,
+            m: 0,
+            k: 0,
+        };
+        Sheet {
+            setting: Setting { order: 0, model: 0 },
+            slots: 0,
+            list: JobList {
+                jobs: [none; 16],
+                count: 0,
+            },
+        }
+    }
+}
+
+fn refused(refusal: Refusal) -> Read
+    ensures { λ r. ⌜ (r .answer ≡ Checked.Refused refusal) × (r .sheet ≡ blankSheet) ⌝ }
+{
+    Read {
+        answer: Checked::Refused(refusal),
+        sheet: Sheet::blank(),
+    }
+}
+
+// What a sheet of the stated form holds: 16, then 1 to 6.
+fn check(sheet: Sheet) -> Checked
+    ensures { λ r. ⌜ toldChecked r ≡ sheetTold sheet ⌝ }
+{
+    if sheet.slots == 0 {
+        return Checked::Refused(Refusal::SlotCount);
+    }
+    if Sheet::SLOTS_MOST < sheet.slots {
+        return Checked::Refused(Refusal::SlotCount);
+    }
+    let list = sheet.list;
+    list.check()
+}
+
+pub fn read(bytes: &[u8]) -> Read
+    ensures { λ r. ⌜ toldChecked (r .answer) ≡ readTold (now (bytes .entry)) ⌝ }
+    ensures { λ r. ⌜ r .sheet ≡ readSheet (now (bytes .entry)) ⌝ }
+{
+    if Sheet::BYTES_MOST < bytes.len() {
+        return refused(Refusal::SheetTooLong);
+    }
+    let mut reader = Reader::start();
+    let mut at: usize = 0;
+    while at < bytes.len() {
+        let byte = bytes[at];
+        if !reader.fits(byte) {
+            return refused(Refusal::SheetForm { place: at });
+        }
+        reader = reader.advanced(byte);
+        at += 1;
+    }
+    if !reader.between_lines() {
+        return refused(Refusal::SheetForm { place: at });
+    }
+    let sheet = reader.sheet;
+    let answer = check(sheet);
+    if let Checked::Refused(refusal) = answer {
+        return refused(refusal);
+    }
+    Read { answer, sheet }
+}

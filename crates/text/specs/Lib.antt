@@ -1,0 +1,4 @@
+-- Text as lists of bytes.
+pub mod Ascii
+pub mod Decimal
+pub mod Written

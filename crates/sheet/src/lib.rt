@@ -2,6 +2,6 @@
 mod reader;
 mod reading;
 
-pub use reading::Read;
+pub use reading::ReadSheet;
 pub use reading::Sheet;
 pub use reading::read;

@@ -71,7 +71,8 @@ fn stored(reader: Reader) -> Reader
     next.field = reader.field + 1;
     next.digits = 0;
     next.value = 0;
-    match reader.field {
+    let field = reader.field;
+    match field {
         0 => next.sheet.setting.order = value,
         1 => next.sheet.setting.model = value,
         2 => next.sheet.slots = value,
@@ -81,8 +82,10 @@ fn stored(reader: Reader) -> Reader
         _ => {
             next.field = 3;
             next.job.k = value;
-            let list = pushed(next.sheet.list, next.job);
-            next.sheet.list = list;
+            let list = next.sheet.list;
+            let job = next.job;
+            let more = pushed(list, job);
+            next.sheet.list = more;
         }
     }
     next

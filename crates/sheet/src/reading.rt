@@ -16,7 +16,7 @@ pub struct Sheet {
     pub list: JobList,
 }
 
-pub struct Read {
+pub struct ReadSheet {
     pub answer: Checked,
     pub sheet: Sheet,
 }
@@ -48,10 +48,10 @@ impl Sheet {
     }
 }
 
-fn refused(refusal: Refusal) -> Read
+fn refused(refusal: Refusal) -> ReadSheet
     ensures { λ r. ⌜ (r .answer ≡ Checked.Refused refusal) × (r .sheet ≡ blankSheet) ⌝ }
 {
-    Read {
+    ReadSheet {
         answer: Checked::Refused(refusal),
         sheet: Sheet::blank(),
     }
@@ -71,7 +71,7 @@ fn check(sheet: Sheet) -> Checked
     list.check()
 }
 
-pub fn read(bytes: &[u8]) -> Read
+pub fn read(bytes: &[u8]) -> ReadSheet
     ensures { λ r. ⌜ toldChecked (r .answer) ≡ readTold (now (bytes .entry)) ⌝ }
     ensures { λ r. ⌜ r .sheet ≡ readSheet (now (bytes .entry)) ⌝ }
 {
@@ -96,5 +96,5 @@ pub fn read(bytes: &[u8]) -> Read
     if let Checked::Refused(refusal) = answer {
         return refused(refusal);
     }
-    Read { answer, sheet }
+    ReadSheet { answer, sheet }
 }

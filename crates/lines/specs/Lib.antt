@@ -1,0 +1,5 @@
+-- The text of each line, as document 01 words it.
+pub mod Parts
+pub mod Slot
+pub mod Summary
+pub mod Refused

@@ -1,0 +1,11 @@
+// The lines that `slots` prints, each written by one function into a lent buffer that any of them
+// fits.
+mod parts;
+mod refused;
+mod slot;
+mod summary;
+
+pub use refused::refusal_line;
+pub use slot::slot_line;
+pub use summary::admission_line;
+pub use summary::totals_line;

@@ -1,0 +1,52 @@
+-- What is known of an admitted list: it is sound, its cycle holds its load, and no window of its run misses anything.
+use mathlib.Core.Path.{_≡_, refl}
+use mathlib.Core.Logic.{_↔_}
+use Prim.Native.Nat.{ℕ, _≤_, _<_}
+use native.Mathlib.Omega.{arith}
+use lib.Dec.{eqb}
+use Rattle.job.specs.declared.list.JobList.{JobList}
+use Rattle.job.specs.Limit.{relaxed, cycleMost}
+use Rattle.job.specs.Sound.{SoundList}
+use Rattle.admission.specs.Cycle.{cycleOf}
+use Rattle.admission.specs.Load.{loadOf}
+use Rattle.admission.proofs.Meaning.{admitted-exactly}
+use Rattle.admission.proofs.CycleLaws.{cycle-common, cycle-positive}
+use Rattle.run.specs.State.{clockMost}
+use Rattle.run.specs.Choice.{chosenOf}
+use Rattle.run.specs.Meaning.{at}
+use Rattle.promises.specs.DemandThree.{Admits}
+use Rattle.promises.proofs.WorkLaws.{missedOf}
+use Rattle.promises.proofs.OnTimeLaws.{runOf, run-none-missed}
+
+-- a sound list whose cycle is within its limit and holds the load
+pub record Holds (l : JobList) : Type 0 where
+  pub sound : SoundList l
+  pub short : cycleOf l ≤ cycleMost
+  pub loaded : loadOf l (cycleOf l) ≤ cycleOf l
+
+pub admits-exactly : (l : JobList) → Admits l ↔ Holds l
+admits-exactly l = (to, from)
+  where
+    to : Admits l → Holds l
+    to a =
+        let facts = admitted-exactly l relaxed (a .0) (a .1) .0 (a .2) in
+        record {
+          sound = facts .0 .sound;
+          short = facts .0 .cycle-short;
+          loaded = omega (arith, facts .0 .cycle, facts .0 .load, facts .1);
+        }
+
+    from : Holds l → Admits l
+    from h = (
+      cycleOf l,
+      loadOf l (cycleOf l),
+      admitted-exactly l relaxed (cycleOf l) (loadOf l (cycleOf l)) .1
+          (record { model-relaxed = refl; sound = h .sound; cycle-short = h .short; cycle = refl; load = refl }, h .loaded),
+    )
+
+pub admitted-none-missed :
+    (l : JobList) → Holds l → (n : ℕ) → n ≤ clockMost → (i : ℕ) → i < l .count
+    → missedOf (at (runOf l n) i) (eqb i (chosenOf (runOf l n))) ≡ 0
+admitted-none-missed l holds =
+    run-none-missed l (holds .sound) (cycleOf l) (cycle-common l) (holds .loaded)
+    (cycle-positive (l .jobs) (l .count) (holds .sound .jobs))

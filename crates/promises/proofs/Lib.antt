@@ -1,0 +1,12 @@
+-- The laws behind the statements of specs/, and their proofs.
+pub mod SumLaws
+pub mod AmountLaws
+pub mod WindowLaws
+pub mod WorkLaws
+pub mod DueLaws
+pub mod OnTimeLaws
+pub mod AdmittedLaws
+pub mod NeverShort
+pub mod CountLaws
+pub mod TimetableLaws
+pub mod Timetable

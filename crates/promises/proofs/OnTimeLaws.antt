@@ -1,0 +1,106 @@
+-- A run in window order from the fresh state of a list is on time: no window of it misses any of its service.
+use mathlib.Core.Path.{_≡_, refl, sym, ap, _∙_}
+use mathlib.Core.List.{List}
+use Prim.Native.Nat.{ℕ, zero, suc, _+_, _*_, _/_, min, _≤_, _<_}
+use native.Mathlib.Nat.{mul-le-mul-left, div-mul-le-self, div-mul-cancel}
+use native.Mathlib.Omega.{arith}
+use lib.Dec.{eqb}
+use Rattle.job.specs.declared.record.Job.{Job}
+use Rattle.job.specs.declared.list.JobList.{JobList}
+use Rattle.job.specs.Limit.{countMost, relaxed}
+use Rattle.job.specs.Check.{jobAt}
+use Rattle.job.specs.Sound.{SoundList}
+use Rattle.job.specs.Window.{windowOf}
+use Rattle.admission.specs.Load.{shareOf, loadUpto, loadOf}
+use Rattle.admission.specs.Meaning.{CommonMultiple}
+use Rattle.run.specs.declared.setting.Setting.{Setting}
+use Rattle.run.specs.declared.place.Place.{Place}
+use Rattle.run.specs.declared.state.State.{State}
+use Rattle.run.specs.Setting.{orderW}
+use Rattle.run.specs.State.{clockMost, opened, freshOf}
+use Rattle.run.specs.Choice.{chosenOf}
+use Rattle.run.specs.Sound.{SoundState}
+use Rattle.run.specs.Run.{afterSlots}
+use Rattle.run.specs.Meaning.{at}
+use Rattle.run.proofs.FreshLaws.{fresh-at, fresh-sound}
+use Rattle.run.proofs.RunLaws.{after-setting, after-count, after-sound}
+use Rattle.promises.specs.DemandThree.{windowOrder}
+use Rattle.promises.proofs.SumLaws.{sumUpto, sum-same, sum-bound}
+use Rattle.promises.proofs.AmountLaws.{by-share}
+use Rattle.promises.proofs.WorkLaws.{serviceOf, dueOf, missedOf, due-opened}
+use Rattle.promises.proofs.DueLaws.{loadIn, OnTime, on-time-next, none-missed}
+
+-- the load as a sum
+pub load-sum : (jobs : List Job) (N n : ℕ) → loadUpto jobs N n ≡ sumUpto (λ i. shareOf (jobAt jobs i) N) n
+unfolding loadUpto sumUpto
+load-sum jobs N zero = refl
+load-sum jobs N (suc n) = ap (_+ shareOf (jobAt jobs n) N) (load-sum jobs N n)
+
+-- the fresh state
+module _ (l : JobList) (setting : Setting) (sound : SoundList l) where
+  abbrev started : State
+  started = freshOf l setting
+
+  fresh-place : (i : ℕ) → i < l .count → at started i ≡ opened (jobAt (l .jobs) i)
+  fresh-place i h = fresh-at (l .jobs) (min (l .count) countMost) i (omega (arith, sound .count .high)) (omega arith)
+
+  fresh-job : (i : ℕ) → i < l .count → at started i .job ≡ jobAt (l .jobs) i
+  fresh-job i h = ap (λ (q : Place). q .job) (fresh-place i h)
+
+  fresh-load : (N : ℕ) → loadIn started N ≡ loadOf l N
+  fresh-load N =
+      sum-same (l .count) (λ i h. ap (λ (j : Job). shareOf j N) (fresh-job i h)) ∙ sym (load-sum (l .jobs) N (l .count))
+
+  module _ (N : ℕ) (common : CommonMultiple l N) where
+    whole : (i : ℕ) → i < l .count → N / windowOf (at started i .job) * windowOf (at started i .job) ≡ N
+    whole i h = rw (fresh-job i h) (div-mul-cancel (windowOf (jobAt (l .jobs) i)) (common i h))
+
+    fresh-due : (D i : ℕ) → i < l .count → N * dueOf (at started i) D ≤ shareOf (at started i .job) N * D
+    fresh-due D i h =
+        let j : Job = jobAt (l .jobs) i in
+        let even : dueOf (opened j) D * windowOf j ≤ serviceOf j * D =
+        rw (due-opened D (sound .jobs i h)) (omega (arith, mul-le-mul-left (serviceOf j) (div-mul-le-self D (windowOf j)))) in
+        rw (fresh-place i h)
+        (by-share N (windowOf j) (serviceOf j) D (dueOf (opened j) D) (div-mul-cancel (windowOf j) (common i h)) even)
+
+    fresh-on-time : loadOf l N ≤ N → OnTime N started
+    fresh-on-time fits =
+        record {
+          whole = whole;
+          loaded = omega (arith, fresh-load N);
+          bound =
+              λ D.
+              sum-bound (λ i. dueOf (at started i) D) (λ i. shareOf (at started i .job) N) N D (l .count) (fresh-due D);
+        }
+
+-- the run: its state after n slots
+abbrev pub runOf : JobList → ℕ → State
+runOf l n = afterSlots (freshOf l windowOrder) n
+
+module _ (l : JobList) where
+  pub run-model : (n : ℕ) → runOf l n .setting .model ≡ relaxed
+  run-model n = ap (λ (x : Setting). x .model) (after-setting (freshOf l windowOrder) n)
+
+  run-order : (n : ℕ) → runOf l n .setting .order ≡ orderW
+  run-order n = ap (λ (x : Setting). x .order) (after-setting (freshOf l windowOrder) n)
+
+  pub run-listed : (n : ℕ) {i : ℕ} → i < l .count → i < runOf l n .count
+  run-listed n listed = rw (after-count (freshOf l windowOrder) n) listed
+
+  module _ (sound : SoundList l) where
+    pub run-sound : (n : ℕ) → n ≤ clockMost → SoundState (runOf l n)
+    run-sound n high = after-sound (freshOf l windowOrder) (fresh-sound l windowOrder sound refl) n (omega arith)
+
+    module _ (N : ℕ) (common : CommonMultiple l N) (fits : loadOf l N ≤ N) where
+      run-on-time : (n : ℕ) → n ≤ clockMost → OnTime N (runOf l n)
+      unfolding afterSlots
+      run-on-time zero high = fresh-on-time l windowOrder sound N common fits
+      run-on-time (suc n) high =
+          on-time-next N (runOf l n) (run-sound n (omega arith)) (run-model n) (run-on-time n (omega arith)) (run-order n)
+
+      pub run-none-missed :
+          0 < N → (n : ℕ) → n ≤ clockMost → (i : ℕ) → i < l .count
+          → missedOf (at (runOf l n) i) (eqb i (chosenOf (runOf l n))) ≡ 0
+      run-none-missed some n high i listed =
+          none-missed N (runOf l n) (run-sound n high) (run-model n) (run-on-time n high) (run-order n) some i
+          (run-listed n listed)

@@ -1,0 +1,175 @@
+-- The work of a place of the relaxed model due within D slots, and what one slot leaves of it.
+use mathlib.Core.Path.{_≡_, refl, _∙_}
+use mathlib.Core.Bool.{Bool, true, false, cond}
+use mathlib.Core.Logic.{_⊎_, inl, inr}
+use Prim.Native.Nat.{ℕ, _+_, _-_, _*_, _/_, _≤_, _<_}
+use native.Mathlib.Nat.{add-zero, sub-zero, mul-le-mul-left, div-mul-le-self, div-lt-iff-lt-mul}
+use native.Mathlib.Omega.{arith}
+use borrow.Author.Tests.{eq-eqb}
+use Rattle.job.specs.declared.record.Job.{Job}
+use Rattle.job.specs.Limit.{relaxed}
+use Rattle.job.specs.Sound.{SoundJob}
+use Rattle.job.specs.Window.{windowOf}
+use Rattle.admission.proofs.CycleLaws.{window-positive}
+use Rattle.run.specs.declared.setting.Setting.{Setting}
+use Rattle.run.specs.declared.place.Place.{Place}
+use Rattle.run.specs.State.{opened}
+use Rattle.run.specs.Place.{finishedOf, owedOf, eligibleOf, workedOf, windowEnds, movedOf}
+use Rattle.run.specs.Sound.{SoundPlace}
+use Rattle.run.proofs.PlaceLaws.{eligible-relaxed}
+use Rattle.run.proofs.CounterLaws.{Served, worked}
+use Rattle.promises.proofs.AmountLaws.{amount, amount-in, amount-out, amount-shift, amount-more, amount-new, amount-last, amount-bound, lack-within-share}
+use Rattle.promises.proofs.WindowLaws.{leftOf, usedOf, Stays, Ends, opened-left, not-eligible, left-more, moved-view}
+
+-- 'm times C units per window'
+abbrev pub serviceOf : Job → ℕ
+serviceOf j = j .m * j .c
+
+-- due within D slots
+abbrev pub dueOf : Place → ℕ → ℕ
+dueOf q D = amount (windowOf (q .job)) (serviceOf (q .job)) (leftOf q) (serviceOf (q .job) - q .at .u) D
+
+-- what the window lacks that ends with the slot
+unfoldable pub missedOf : Place → Bool → ℕ
+missedOf q chosen = cond (windowEnds q) (serviceOf (q .job) - usedOf q chosen) 0
+
+-- the slot leaves what is due within D slots after it, and what is missed
+abbrev pub leavesOf : Setting → Place → Bool → ℕ → ℕ
+leavesOf setting q chosen D = dueOf (movedOf setting q chosen .place) D + missedOf q chosen
+
+-- where a window opens
+due-opening :
+    {j : Job} (q : Place) (D : ℕ) → SoundJob j → q .job ≡ j → leftOf q ≡ windowOf j → q .at .u ≡ 0
+    → dueOf q D ≡ D / windowOf j * serviceOf j
+due-opening {j} q D sound same whole unused =
+    rw (whole, unused, same, sub-zero) (amount-new (windowOf j) (serviceOf j) D (window-positive sound))
+
+pub due-opened : {j : Job} (D : ℕ) → SoundJob j → dueOf (opened j) D ≡ D / windowOf j * serviceOf j
+due-opened {j} D sound = due-opening (opened j) D sound refl (opened-left sound) refl
+
+used-least : (q : Place) (chosen : Bool) → q .at .u ≤ usedOf q chosen
+used-least q true = omega arith
+used-least q false = omega arith
+
+module _ (q : Place) (chosen : Bool) where
+  missed-open : windowEnds q ≡ false → missedOf q chosen ≡ 0
+  unfolding missedOf
+  missed-open open-still = rw open-still
+
+  pub missed-over : windowEnds q ≡ true → missedOf q chosen ≡ serviceOf (q .job) - usedOf q chosen
+  unfolding missedOf
+  missed-over over = rw over
+
+  abbrev lack : ℕ
+  lack = serviceOf (q .job) - usedOf q chosen
+
+  abbrev within : ℕ → ℕ → ℕ
+  within left D = amount (windowOf (q .job)) (serviceOf (q .job)) left lack D
+
+  -- what is due after the slot, by the numbers before it
+  module _ {r : Place} (D : ℕ) where
+    stays-due : Stays q chosen r → dueOf r D + missedOf q chosen ≡ within (leftOf r) D
+    stays-due s = rw (missed-open (s .open-still), s .same-job, s .used, add-zero)
+
+    stays-earlier : Stays q chosen r → dueOf r D + missedOf q chosen ≡ within (leftOf q) (D + 1)
+    stays-earlier s = stays-due s ∙ rw (s .one-less) (amount-shift (windowOf (q .job)) (serviceOf (q .job)) (leftOf r) lack D)
+
+    ends-due : Ends q r → SoundJob (q .job) → dueOf r D + missedOf q chosen ≡ D / windowOf (q .job) * serviceOf (q .job) + lack
+    ends-due s sound = rw (due-opening r D sound (s .same-job) (s .whole) (s .unused), missed-over (s .over))
+
+module _ {setting : Setting} {q : Place} (sound : SoundPlace setting q) (model : setting .model ≡ relaxed) where
+  abbrev window : ℕ
+  window = windowOf (q .job)
+
+  abbrev service : ℕ
+  service = serviceOf (q .job)
+
+  -- a place that is not eligible lacks no more than its share of the slots left
+  idle-lack :
+      (chosen : Bool) (left : ℕ) → eligibleOf setting q ≡ false → (q .job .k - q .at .p) * q .job .t ≤ left
+      → lack q chosen * window ≤ service * left
+  idle-lack chosen left e rest = go (not-eligible setting q model e)
+    where
+      go : (service ≤ q .at .u) ⊎ (q .at .p * q .job .c ≤ q .at .u) → lack q chosen * window ≤ service * left
+      go (inl done) =
+          let none : lack q chosen ≡ 0 = omega (arith, used-least q chosen) in
+          rw none (omega arith)
+      go (inr had) =
+          lack-within-share (q .job .c) (q .job .t) (q .job .m) (q .job .k) (q .at .p) (usedOf q chosen) left
+          (sound .job .m .high) (sound .period .high) (omega (arith, used-least q chosen)) rest
+
+  module _ (chosen : Bool) (D : ℕ) where
+    abbrev leaves : ℕ
+    leaves = leavesOf setting q chosen D
+
+    abbrev View : Type 0
+    View = Stays q chosen (movedOf setting q chosen .place) ⊎ Ends q (movedOf setting q chosen .place)
+
+    view : View
+    view = moved-view sound model chosen
+
+    -- a slot never adds to what is due
+    pub keeps : leaves ≤ dueOf q (D + 1)
+    keeps = go view
+      where
+        fewer : lack q chosen ≤ service - q .at .u
+        fewer = omega (arith, used-least q chosen)
+
+        go : View → leaves ≤ dueOf q (D + 1)
+        go (inl s) = rw (stays-earlier q chosen D s) (amount-more window service (leftOf q) (D + 1) fewer)
+        go (inr s) =
+            rw (ends-due q chosen D s (sound .job), s .last-slot, amount-last window service (service - q .at .u) D)
+            (omega (arith, fewer))
+
+    -- a place whose window ends later has nothing due
+    pub far : D + 1 < leftOf q → leaves ≡ 0
+    far late = go view
+      where
+        go : View → leaves ≡ 0
+        go (inl s) = stays-earlier q chosen D s ∙ amount-out window service (lack q chosen) late
+        go (inr s) = absurd (omega (arith, s .last-slot))
+
+    -- a place that is not eligible has no more than its share of D slots due, whether the slot is given to it or not
+    pub idles : eligibleOf setting q ≡ false → leaves * window ≤ service * D
+    idles e = go view
+      where
+        go : View → leaves * window ≤ service * D
+        go (inl s) =
+            rw (stays-due q chosen D s)
+            (amount-bound window service (leftOf (movedOf setting q chosen .place)) (lack q chosen) D
+            (idle-lack chosen (leftOf (movedOf setting q chosen .place)) e (omega (arith, left-more sound, s .one-less))))
+        go (inr s) =
+            let no-period : q .job .k - q .at .p ≡ 0 = omega (arith, s .last-period) in
+            let none : (q .job .k - q .at .p) * q .job .t ≤ 0 = rw no-period (omega arith) in
+            rw (ends-due q chosen D s (sound .job))
+            (omega (arith, idle-lack chosen 0 e none, mul-le-mul-left service (div-mul-le-self D window)))
+
+  -- a slot given is one less due
+  pub spends : (D : ℕ) → eligibleOf setting q ≡ true → leftOf q ≤ D + 1 → leavesOf setting q true D + 1 ≤ dueOf q (D + 1)
+  spends D eligible soon = go (view true D)
+    where
+      some : q .at .u < service
+      some = eligible-relaxed setting q model eligible .0
+
+      go : View true D → leavesOf setting q true D + 1 ≤ dueOf q (D + 1)
+      go (inl s) =
+          rw (
+            stays-earlier q true D s,
+            amount-in window service (lack q true) soon,
+            amount-in window service (service - q .at .u) soon,
+          )
+          (omega (arith, some))
+      go (inr s) =
+          rw (ends-due q true D s (sound .job), s .last-slot, amount-last window service (service - q .at .u) D)
+          (omega (arith, some))
+
+  -- a window that ends short misses something
+  pub short-missed :
+      (chosen : Bool) → windowEnds q ≡ true → 0 < owedOf setting (workedOf setting q chosen false) → 0 < missedOf q chosen
+  unfolding owedOf finishedOf
+  short-missed chosen over owed =
+      let served : Served setting q chosen (workedOf setting q chosen false) = worked setting q chosen false in
+      let few : 0 < q .job .m - usedOf q chosen / q .job .c =
+      rw (eq-eqb (setting .model) relaxed model, served .u-more model, served .same-job) at owed in
+      let used-few : usedOf q chosen < service = div-lt-iff-lt-mul (sound .job .c .low) .0 (omega arith) in
+      rw (missed-over q chosen over) (omega arith)

@@ -5,4 +5,3 @@ pub mod LoadLaws
 pub mod AnswerLaws
 pub mod VerdictLaws
 pub mod Meaning
-pub mod Cases

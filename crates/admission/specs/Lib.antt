@@ -5,4 +5,3 @@ pub mod Load
 pub mod Answer
 pub mod Verdict
 pub mod Meaning
-pub mod Cases

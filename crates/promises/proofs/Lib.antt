@@ -10,3 +10,5 @@ pub mod NeverShort
 pub mod CountLaws
 pub mod TimetableLaws
 pub mod Timetable
+pub mod Cases
+pub mod Unique

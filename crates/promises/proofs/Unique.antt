@@ -1,0 +1,54 @@
+-- Each public operation's promise allows one result: by one law for equations, and that `told` is one-to-one.
+use mathlib.Core.Path.{_≡_, sym, _∙_}
+use Rattle.job.specs.Told.{toldChecked}
+use Rattle.job.proofs.ToldLaws.{checked-one-to-one}
+use Rattle.admission.proofs.AnswerLaws.{admission-one-to-one}
+use Rattle.admission.proofs.DivisorLaws.{divisor-unique}
+use Rattle.run.proofs.AnswerLaws.{step-one-to-one}
+use Rattle.promises.specs.Unique.{Unique, JobCheckUnique, ListCheckUnique, DivisorUnique, VerdictUnique, StartUnique, StepUnique, WriteUnique}
+
+-- a result fixed by an equation
+pub fixed : {A : Type 0} (x : A) → Unique (λ (r : A). r ≡ x)
+fixed x a b e f = e ∙ sym f
+
+-- an answer fixed by what it tells, where telling is one-to-one
+pub told-fixed :
+    {A B : Type 0} (f : A → B) → ((a b : A) → f a ≡ f b → a ≡ b) → (x : B) → Unique (λ (r : A). f r ≡ x)
+told-fixed f injective x a b e g = injective a b (e ∙ sym g)
+
+pub job-check-unique : JobCheckUnique
+job-check-unique at j = told-fixed toldChecked checked-one-to-one _
+
+pub list-check-unique : ListCheckUnique
+list-check-unique l = told-fixed toldChecked checked-one-to-one _
+
+pub divisor-one : DivisorUnique
+divisor-one a b x y = divisor-unique a b x y
+
+pub verdict-unique : VerdictUnique
+verdict-unique l model a b e f = admission-one-to-one a b (e ∙ sym f)
+
+pub start-unique : StartUnique
+start-unique l s a b e f =
+    λ i. record {
+      answer = checked-one-to-one (a .answer) (b .answer) (e .0 ∙ sym (f .0)) i;
+      state = fixed _ (a .state) (b .state) (e .1) (f .1) i;
+    }
+
+pub step-unique : StepUnique
+step-unique s a b e f =
+    λ i. record {
+      answer = step-one-to-one (a .answer) (b .answer) (e .0 ∙ sym (f .0)) i;
+      state = fixed _ (a .state) (b .state) (e .1) (f .1) i;
+    }
+
+pub write-unique : WriteUnique
+write-unique s bytes offset n a b e f =
+    λ i. record {
+      result =
+          record {
+            answer = checked-one-to-one (a .result .answer) (b .result .answer) (e .0 ∙ sym (f .0)) i;
+            state = fixed _ (a .result .state) (b .result .state) (e .1) (f .1) i;
+          };
+      bytes = fixed _ (a .bytes) (b .bytes) (e .2) (f .2) i;
+    }

@@ -1,0 +1,89 @@
+-- 'Runs worked by hand', the nine marked to be proved, in one list with one claim over it.
+use Prim.Native.Nat.{ℕ, zero, suc}
+use mathlib.Core.Path.{_≡_}
+use mathlib.Core.List.{List, [], _∷_, _++_, map}
+use lib.ListN.{length}
+use Rattle.job.specs.declared.record.Job.{Job}
+use Rattle.job.specs.declared.list.JobList.{JobList}
+use Rattle.job.specs.Limit.{relaxed, original}
+use Rattle.job.specs.Told.{Told, row}
+use Rattle.admission.specs.Verdict.{verdictTold}
+use Rattle.run.specs.declared.state.State.{State}
+use Rattle.run.specs.Setting.{orderV, orderW}
+use Rattle.run.specs.Slot.{turnOf}
+use Rattle.run.specs.Answer.{toldSlot}
+use Rattle.run.specs.Step.{startState}
+use Rattle.run.specs.Run.{afterSlots}
+
+-- what a case shows: the answers of its slots (first tags, short windows, the job or nothing), and the verdict
+pub record Shown : Type 0 where
+  pub slots : List (List ℕ)
+  pub verdict : Told
+
+pub record Case : Type 0 where
+  pub jobs : List Job
+  pub order : ℕ
+  pub model : ℕ
+  pub shown : Shown
+
+-- the answers of the first n slots
+unfoldable pub answersOf : State → ℕ → List (List ℕ)
+answersOf s zero = []
+answersOf s (suc n) = answersOf s n ++ (toldSlot (turnOf (afterSlots s n) .slot) ∷ [])
+
+-- by the definitions that the contracts cite
+abbrev pub listOf : List Job → JobList
+listOf jobs = record { jobs = jobs; count = length jobs }
+
+abbrev pub worked : Case → Shown
+worked c =
+    record {
+      slots = answersOf (startState (listOf (c .jobs)) (record { order = c .order; model = c .model })) (length (c .shown .slots));
+      verdict = verdictTold (listOf (c .jobs)) (c .model);
+    }
+
+-- 'Jobs are written C T m k.'
+abbrev pub job : ℕ → ℕ → ℕ → ℕ → Job
+job c t m k = record { c = c; t = t; m = m; k = k }
+
+abbrev pub given : ℕ → List ℕ
+given j = 0 ∷ 0 ∷ j ∷ []
+
+abbrev pub idle : List ℕ
+idle = 0 ∷ 0 ∷ []
+
+-- sets are masks: job 1 alone is 2
+abbrev pub marked : ℕ → ℕ → ℕ → List ℕ
+marked tags shorts j = tags ∷ shorts ∷ j ∷ []
+
+abbrev pub case : List Job → ℕ → ℕ → List (List ℕ) → Told → Case
+case jobs order model slots verdict =
+    record { jobs = jobs; order = order; model = model; shown = record { slots = slots; verdict = verdict } }
+
+abbrev pub cases : List Case
+cases =
+    -- 'A: 1 2 1 2 and 1 3 2 2, W R, 6 slots: 0 1 - 1 0 -.'
+    case (job 1 2 1 2 ∷ job 1 3 2 2 ∷ []) orderW relaxed (given 0 ∷ given 1 ∷ idle ∷ given 1 ∷ given 0 ∷ idle ∷ []) (row 0 (12 ∷ 7 ∷ []))
+    -- 'B: same, V R: 1 0 - 1 0 -.'
+    ∷ case (job 1 2 1 2 ∷ job 1 3 2 2 ∷ []) orderV relaxed (given 1 ∷ given 0 ∷ idle ∷ given 1 ∷ given 0 ∷ idle ∷ []) (row 0 (12 ∷ 7 ∷ []))
+    -- 'C: 2 4 1 1 and 1 2 2 4, W R, 8 slots: 0 0 1 1 0 0 - -.'
+    ∷ case (job 2 4 1 1 ∷ job 1 2 2 4 ∷ []) orderW relaxed
+    (given 0 ∷ given 0 ∷ given 1 ∷ given 1 ∷ given 0 ∷ given 0 ∷ idle ∷ idle ∷ []) (row 0 (8 ∷ 6 ∷ []))
+    -- 'D: same, W O: 0 0 1 - 0 0 1 -.'
+    ∷ case (job 2 4 1 1 ∷ job 1 2 2 4 ∷ []) orderW original
+    (given 0 ∷ given 0 ∷ given 1 ∷ idle ∷ given 0 ∷ given 0 ∷ given 1 ∷ idle ∷ []) (row 7 [])
+    -- 'E: 2 3 1 2 and 1 2 1 1, W R, 6 slots: 1 0 1 0 1 -.'
+    ∷ case (job 2 3 1 2 ∷ job 1 2 1 1 ∷ []) orderW relaxed (given 1 ∷ given 0 ∷ given 1 ∷ given 0 ∷ given 1 ∷ idle ∷ []) (row 0 (6 ∷ 5 ∷ []))
+    -- 'F: 1 1 1 1 and 1 2 1 1, W R, 2 slots: 0 0; slot 1 tags job 1, whose window is short.'
+    ∷ case (job 1 1 1 1 ∷ job 1 2 1 1 ∷ []) orderW relaxed (given 0 ∷ marked 2 2 0 ∷ []) (row 9 (2 ∷ 3 ∷ []))
+    -- 'G: 1 2 1 1 and 2 2 1 1, W R, 2 slots: 0 1; job 1 short, no tag.'
+    ∷ case (job 1 2 1 1 ∷ job 2 2 1 1 ∷ []) orderW relaxed (given 0 ∷ marked 0 2 1 ∷ []) (row 9 (2 ∷ 3 ∷ []))
+    -- 'H: 1 2 1 1, 1 3 1 1, 1 6 1 1: cycle 6, load 6, admitted.'
+    ∷ case (job 1 2 1 1 ∷ job 1 3 1 1 ∷ job 1 6 1 1 ∷ []) orderW relaxed [] (row 0 (6 ∷ 6 ∷ []))
+    -- 'I: 1 2 1 1 twice and 1 100 1 255: cycle 25,500, load 25,501, refusal 9.'
+    ∷ case (job 1 2 1 1 ∷ job 1 2 1 1 ∷ job 1 100 1 255 ∷ []) orderW relaxed [] (row 9 (25500 ∷ 25501 ∷ []))
+    ∷ []
+
+-- what is worked by the definitions is what was worked by hand
+abbrev pub CasesHold : Type 0
+CasesHold = map worked cases ≡ map (λ (c : Case). c .shown) cases

@@ -1,0 +1,66 @@
+-- 'any two results allowed by it are proved equal': for each public operation, whatever its promise allows for one input is one result,
+-- one state and one content of the lent bytes. `promise` is the contract's `ensures`, as the source states it.
+use Prim.Native.Nat.{ℕ}
+use mathlib.Core.Path.{_≡_}
+use mathlib.Core.List.{List}
+use lib.ListN.{length}
+use Rattle.job.specs.declared.record.Job.{Job}
+use Rattle.job.specs.declared.list.JobList.{JobList}
+use Rattle.job.specs.declared.refusal.Refusal.{Refusal}
+use Rattle.job.specs.declared.refusal.Checked.{Checked}
+use Rattle.job.specs.Told.{told, toldChecked}
+use Rattle.job.specs.Check.{jobTold, listTold}
+use Rattle.admission.specs.declared.answer.Admission.{Admission}
+use Rattle.admission.specs.Divisor.{GreatestDivisor}
+use Rattle.admission.specs.Answer.{toldAdmission}
+use Rattle.admission.specs.Verdict.{verdictTold}
+use Rattle.run.specs.declared.setting.Setting.{Setting}
+use Rattle.run.specs.declared.state.State.{State}
+use Rattle.run.specs.declared.answer.Started.{Started}
+use Rattle.run.specs.declared.answer.Stepped.{Stepped}
+use Rattle.run.specs.Answer.{toldStep}
+use Rattle.run.specs.Step.{startTold, startState, stepTold, stepState}
+use Rattle.timetable.specs.declared.writer.Written.{Written}
+use Rattle.timetable.specs.Table.{writeTold, writeState, writeBytes}
+
+-- a promise about results of one input allows one result
+abbrev pub Unique : {A : Type 0} → (A → Type 0) → Type 0
+Unique {A} promise = (a b : A) → promise a → promise b → a ≡ b
+
+-- a result beside the bytes of a lent buffer as the call returns
+pub record Left (A : Type 0) : Type 0 where
+  pub result : A
+  pub bytes : List ℕ
+
+-- `Job::check`, `JobList::check`
+abbrev pub JobCheckUnique : Type 0
+JobCheckUnique = (at : ℕ) (j : Job) → Unique (λ (r : Checked). toldChecked r ≡ jobTold at j)
+
+abbrev pub ListCheckUnique : Type 0
+ListCheckUnique = (l : JobList) → Unique (λ (r : Checked). toldChecked r ≡ listTold l)
+
+-- `common_divisor`, whose promise is a relation; `verdict`
+abbrev pub DivisorUnique : Type 0
+DivisorUnique = (a b : ℕ) → Unique (GreatestDivisor a b)
+
+abbrev pub VerdictUnique : Type 0
+VerdictUnique = (l : JobList) (model : ℕ) → Unique (λ (r : Admission). toldAdmission r ≡ verdictTold l model)
+
+-- `start`, `step`
+abbrev pub StartUnique : Type 0
+StartUnique =
+    (l : JobList) (s : Setting)
+    → Unique (λ (r : Started). (toldChecked (r .answer) ≡ startTold l s) × (r .state ≡ startState l s))
+
+abbrev pub StepUnique : Type 0
+StepUnique = (s : State) → Unique (λ (r : Stepped). (toldStep (r .answer) ≡ stepTold s) × (r .state ≡ stepState s))
+
+-- `write`
+abbrev pub WriteUnique : Type 0
+WriteUnique =
+    (s : State) (bytes : List ℕ) (offset n : ℕ)
+    → Unique
+    (λ (r : Left Written).
+        (toldChecked (r .result .answer) ≡ writeTold s (length bytes) offset n)
+        × (r .result .state ≡ writeState s (length bytes) offset n)
+        × (r .bytes ≡ writeBytes s bytes offset n))

@@ -61,6 +61,6 @@ WriteUnique =
     (s : State) (bytes : List ℕ) (offset n : ℕ)
     → Unique
     (λ (r : Left Written).
-        (toldChecked (r .result .answer) ≡ writeTold s (length bytes) offset n)
-        × (r .result .state ≡ writeState s (length bytes) offset n)
-        × (r .bytes ≡ writeBytes s bytes offset n))
+    (toldChecked (r .result .answer) ≡ writeTold s (length bytes) offset n)
+    × (r .result .state ≡ writeState s (length bytes) offset n)
+    × (r .bytes ≡ writeBytes s bytes offset n))

@@ -1,11 +1,11 @@
 -- What the numbers of a sound place keep to, so that nothing computed from them wraps.
-use mathlib.Core.Path.{_≡_, refl}
-use mathlib.Core.Bool.{Bool, true, false, _&&_, cond}
+use mathlib.Core.Path.{_≡_, refl, _∙_}
+use mathlib.Core.Bool.{Bool, true, false, _&&_, cond, and-false}
 use Prim.Native.Nat.{ℕ, _+_, _-_, _*_, _/_, _≤_, _<_}
-use native.Mathlib.Nat.{mul-le-mul, mul-comm, div-le-of-le-mul, le-refl, le-trans}
+use native.Mathlib.Nat.{mul-le-mul, mul-le-mul-left, mul-comm, div-le-of-le-mul, le-refl, le-trans}
 use native.Mathlib.Omega.{arith}
-use lib.Dec.{eqb}
-use borrow.Author.Tests.{eqb-true, eqb-false}
+use lib.Dec.{leb, ltb, eqb}
+use borrow.Author.Tests.{eqb-true, eqb-false, lt-leb}
 use lib.IntN.{pos, natAbs, _-ℤ_, _*ℤ_}
 use mir.Syntax.{w64}
 use mir.Val.{SFits, toZ, ofZ}
@@ -16,9 +16,9 @@ use Rattle.run.specs.declared.place.Place.{Place}
 use Rattle.run.specs.declared.inner.choice.Held.{Held}
 use Rattle.run.specs.Setting.{inRelaxed, inOrderV}
 use Rattle.run.specs.Sound.{SoundPlace}
-use Rattle.run.specs.Place.{windowLeft, finishedOf, owedOf, eligibleOf, numeratorOf}
+use Rattle.run.specs.Place.{windowLeft, finishedOf, owedOf, eligibleOf, numeratorOf, overdueOf}
 use Rattle.run.specs.Choice.{Small, distanceOf, nearerOf, betterOf, nobody}
-use Rattle.run.proofs.SignedLaws.{abs-sub, abs-mul, abs-fits, small-pos}
+use Rattle.run.proofs.SignedLaws.{abs-sub, abs-mul, abs-fits, small-pos, difference-most}
 
 module _ {setting : Setting} {q : Place} (s : SoundPlace setting q) where
   -- the model is the relaxed one, or the original
@@ -72,6 +72,26 @@ module _ {setting : Setting} {q : Place} (s : SoundPlace setting q) where
       let hw : windowLeft q ≤ 4294967295 = omega (arith, window-high) in
       let hd : q .at .e * owedOf setting q ≤ 4294967295 = omega (arith, gone-high) in
       rw (f, g, small-pos hw, small-pos hd)
+
+  -- the tag's condition without signs, and where m decides it
+  pub overdue-is : overdueOf setting q ≡ (ltb 0 (owedOf setting q) && leb (windowLeft q) ((q .at .e + 1) * owedOf setting q))
+  unfolding overdueOf numeratorOf
+  overdue-is =
+      let product : q .at .e * owedOf setting q + owedOf setting q ≡ (q .at .e + 1) * owedOf setting q = omega arith in
+      rw (difference-most (windowLeft q) (q .at .e * owedOf setting q) (owedOf setting q), product)
+
+  pub owed-most : owedOf setting q ≤ q .job .m
+  unfolding owedOf
+  owed-most = omega arith
+
+  pub not-overdue : (q .at .e + 1) * q .job .m < windowLeft q → overdueOf setting q ≡ false
+  not-overdue h =
+      let less = mul-le-mul-left (q .at .e + 1) owed-most in
+      overdue-is
+      ∙ rw (lt-leb (windowLeft q) ((q .at .e + 1) * owedOf setting q) (omega arith)) (and-false (ltb 0 (owedOf setting q)))
+
+  pub next-high : (x : ℕ) → x ≤ 255 → (q .at .e + 1) * x ≤ 1044480
+  next-high x h = mul-le-mul {n₂ = 4096} {m₂ = 255} (omega arith) h
 
   pub distance-small : (i : ℕ) → Small (distanceOf setting i q)
   unfolding distanceOf

@@ -1,6 +1,6 @@
 -- The definitions of one place, by the tests that they make, and of the choice, by one place more.
-use mathlib.Core.Path.{_≡_, ap, _∙_}
-use mathlib.Core.Bool.{Bool, false, _&&_, cond}
+use mathlib.Core.Path.{_≡_, refl, sym, ap, _∙_}
+use mathlib.Core.Bool.{Bool, true, false, _&&_, _||_, not, cond, and-true, and-false}
 use mathlib.Core.List.{List}
 use Prim.Native.Nat.{ℕ, _+_, _-_, _*_, _/_}
 use native.Mathlib.Numerals.{add-one}
@@ -11,7 +11,7 @@ use Rattle.run.specs.declared.place.Place.{Place}
 use Rattle.run.specs.declared.inner.choice.Held.{Held}
 use Rattle.run.specs.Setting.{inRelaxed, inOrderV}
 use Rattle.run.specs.State.{placeAt}
-use Rattle.run.specs.Place.{placed, windowLeft, finishedOf, owedOf, eligibleOf, numeratorOf, servedOf, turnedOf}
+use Rattle.run.specs.Place.{placed, windowLeft, finishedOf, owedOf, eligibleOf, numeratorOf, overdueOf, firstTagged, servedOf, taggedOf, workedOf, turnedOf}
 use Rattle.run.specs.Choice.{distanceOf, betterOf, heldUpto}
 
 module _ (setting : Setting) (q : Place) where
@@ -58,3 +58,39 @@ pub held-more :
 unfolding heldUpto
 held-more setting places i e f =
     rw (add-one i) (f ∙ ap (λ (h : Held). betterOf setting h i (placeAt places i)) e)
+
+-- the first tag: none where the place is chosen or tagged already, and then what the slot does to the place is the same
+pub first-by :
+    (setting : Setting) (q : Place) (chosen out : Bool) → (chosen || q .at .tag) ≡ out
+    → cond out false (overdueOf setting q) ≡ firstTagged setting q chosen
+unfolding firstTagged
+first-by setting q chosen out e = rw (← e) (go chosen (q .at .tag))
+  where
+    go : (c t : Bool) → cond (c || t) false (overdueOf setting q) ≡ (not c && overdueOf setting q && not t)
+    go true t = refl
+    go false true = sym (and-false (overdueOf setting q))
+    go false false = sym (and-true (overdueOf setting q))
+
+pub worked-first :
+    (setting : Setting) (q : Place) (chosen : Bool)
+    → workedOf setting q chosen (firstTagged setting q chosen) ≡ workedOf setting q chosen (overdueOf setting q)
+unfolding workedOf firstTagged
+worked-first setting q true = refl
+worked-first setting q false = go (overdueOf setting q) (q .at .tag) refl
+  where
+    go : (late tagged : Bool) → q .at .tag ≡ tagged → cond (late && not tagged) (taggedOf q) q ≡ cond late (taggedOf q) q
+    go false tagged e = refl
+    go true false e = refl
+    go true true e =
+        λ i. record {
+          job = q .job;
+          at =
+              record {
+                e = q .at .e;
+                p = q .at .p;
+                u = q .at .u;
+                s = q .at .s;
+                v = q .at .v;
+                tag = e i;
+              };
+        }

@@ -7,7 +7,7 @@ use lib.Dec.{eqb, ltb}
 use borrow.Author.Tests.{ltb-true, lt-ltb, eqb-false, ne-eqb, not-true}
 use Rattle.job.proofs.TestLaws.{both}
 use Rattle.run.specs.declared.state.State.{State}
-use Rattle.run.specs.Place.{owedOf, overdueOf, workedOf, windowEnds, shortOf, movedOf}
+use Rattle.run.specs.Place.{firstTagged, owedOf, overdueOf, workedOf, windowEnds, shortOf, movedOf}
 use Rattle.run.specs.Choice.{chosenOf}
 use Rattle.run.specs.Slot.{tagsAt, shortsAt, allMoved, turnOf}
 use Rattle.run.specs.History.{member}
@@ -25,7 +25,7 @@ module _ (s : State) (i : ℕ) where
   late = overdueOf (s .setting) (at s i)
 
   tags-test : member (turnOf s .slot .tags) i ≡ (ltb i (s .count) && (not chosen && late && not (at s i .at .tag)))
-  unfolding turnOf allMoved movedOf
+  unfolding turnOf allMoved movedOf firstTagged
   tags-test = member-mask (tagsAt (s .setting) (s .places) (chosenOf s)) (s .count) i
 
   shorts-test :

@@ -1,12 +1,13 @@
 -- Small numbers read as signed ones: no difference or product of them wraps.
-use mathlib.Core.Path.{_≡_}
+use mathlib.Core.Path.{_≡_, refl, sym, ap, _∙_}
 use mathlib.Core.Bool.{Bool, true, false, cond}
 use Prim.Native.Nat.{ℕ, zero, suc, _+_, _-_, _*_, _≤_, _<_}
-use native.Mathlib.Nat.{le-refl}
+use native.Mathlib.Nat.{le-refl, add-zero, zero-add}
 use native.Mathlib.Omega.{arith}
-use lib.Dec.{ltb}
+use lib.Dec.{leb, ltb}
 use lib.IntN.{ℤ, pos, negsuc, negℤ, natAbs, _-ℤ_, _*ℤ_}
-use lib.Signed.{mag}
+use lib.Signed.{mag, leZ}
+use borrow.Author.Tests.{ltb-true, ltb-false, leb-true, leb-false, le-leb, lt-leb}
 use mir.Syntax.{w64}
 use mir.Val.{SFits, toZ}
 use mir.Facts.{toZ-pos}
@@ -36,3 +37,16 @@ abs-fits {z} h = record { sfits = omega (arith, mag-high z) }
 
 pub small-pos : {n : ℕ} → n ≤ 4294967295 → toZ w64 n ≡ pos n
 small-pos h = toZ-pos w64 (omega arith)
+
+-- a signed difference against a number, without signs
+pub difference-most : (a b c : ℕ) → leZ (pos a -ℤ pos b) (pos c) ≡ leb a (b + c)
+difference-most a zero c = ap (λ (x : ℕ). leb x c) (add-zero a) ∙ ap (leb a) (sym (zero-add c))
+difference-most a (suc n) c = go (ltb a (suc n)) refl
+  where
+    same : suc n ≤ a → (t : Bool) → leb (a - suc n) c ≡ t → leb (a - suc n) c ≡ leb a (suc n + c)
+    same h true e = e ∙ sym (le-leb a (suc n + c) (let k = leb-true (a - suc n) c e in omega arith))
+    same h false e = e ∙ sym (lt-leb a (suc n + c) (let k = leb-false (a - suc n) c e in omega arith))
+
+    go : (t : Bool) → ltb a (suc n) ≡ t → leZ (cond t (negsuc (suc n - suc a)) (pos (a - suc n))) (pos c) ≡ leb a (suc n + c)
+    go true e = sym (le-leb a (suc n + c) (let k = ltb-true a (suc n) e in omega arith))
+    go false e = same (ltb-false a (suc n) e) (leb (a - suc n) c) refl

@@ -74,12 +74,16 @@ turnedOf q =
     (placed q 0 (r .p + 1) (r .u) (r .s) 0 (r .tag))
     (placed q 0 1 0 0 0 false))
 
+-- 'the set of jobs first tagged in their window'
+unfoldable pub firstTagged : Setting → Place → Bool → Bool
+firstTagged setting q chosen = not chosen && overdueOf setting q && not (q .at .tag)
+
 -- the place after the slot; whether it is first tagged in it; whether its window ends short
 unfoldable pub movedOf : Setting → Place → Bool → Outcome
 movedOf setting q chosen =
     let given = workedOf setting q chosen (overdueOf setting q) in
     record {
       place = turnedOf given;
-      tagged = not chosen && overdueOf setting q && not (q .at .tag);
+      tagged = firstTagged setting q chosen;
       short = shortOf setting given;
     }

@@ -2,7 +2,7 @@
 ghost use mathlib.Core.Path.{_≡_};
 ghost use mathlib.Core.Bool.{true};
 ghost use Rattle.run.specs.Sound.{SoundPlace};
-ghost use Rattle.run.specs.Place.{finishedOf, owedOf, windowLeft, eligibleOf, numeratorOf, overdueOf, servedOf, taggedOf, workedOf, windowEnds, turnedOf, shortOf, movedOf};
+ghost use Rattle.run.specs.Place.{finishedOf, owedOf, windowLeft, eligibleOf, numeratorOf, overdueOf, firstTagged, servedOf, taggedOf, workedOf, windowEnds, turnedOf, shortOf, movedOf};
 use crate::place::Place;
 use crate::place::Progress;
 use crate::setting::Setting;
@@ -62,13 +62,30 @@ pub fn numerator(setting: Setting, q: Place) -> i64
     (ahead as i64) - (gone as i64)
 }
 
-// Whether the virtual deadline is at most the next slot's number.
+// Whether the virtual deadline is at most the next slot's number: k'T ≤ (e + 1) m', with m' > 0.
+// m' is at most m, so that most slots are decided before the division that m' may take.
 pub fn overdue(setting: Setting, q: Place) -> bool
     requires { ⌜ SoundPlace setting q ⌝ }
     ensures { λ r. ⌜ r ≡ overdueOf setting q ⌝ }
 {
+    let ahead = window_left(setting, q);
+    let next = q.at.e + 1;
+    if next * q.job.m < ahead {
+        return false;
+    }
     let lacking = owed(setting, q);
-    0 < lacking && numerator(setting, q) <= (lacking as i64)
+    (0 < lacking) & (ahead <= next * lacking)
+}
+
+// Whether the slot tags the place for the first time in its window.
+pub fn first_tagged(setting: Setting, q: Place, chosen: bool) -> bool
+    requires { ⌜ SoundPlace setting q ⌝ }
+    ensures { λ r. ⌜ r ≡ firstTagged setting q chosen ⌝ }
+{
+    if chosen | q.at.tag {
+        return false;
+    }
+    overdue(setting, q)
 }
 
 // One more unit.
@@ -162,9 +179,8 @@ pub fn moved(setting: Setting, q: Place, chosen: bool) -> Outcome
     requires { ⌜ (chosen ≡ true → eligibleOf setting q ≡ true) ⌝ }
     ensures { λ r. ⌜ r ≡ movedOf setting q chosen ⌝ }
 {
-    let late = overdue(setting, q);
-    let given = worked(setting, q, chosen, late);
-    let tagged = !chosen & late & !q.at.tag;
+    let tagged = first_tagged(setting, q, chosen);
+    let given = worked(setting, q, chosen, tagged);
     let short = is_short(setting, given);
     let place = turned(setting, given);
     Outcome {

@@ -1,0 +1,184 @@
+/* Nanoseconds a slot of the writer through the C entry, beside plain C, on the same lists; the outputs are
+   compared byte for byte.
+
+     bench                  the whole table, as text, and as bench/speed.csv's lines on request (--csv FILE)
+     bench --compare        one short round: only the outputs are compared
+     bench --only WHO I     cell I run once by WHO (entry or plain), for an instruction counter */
+#define _POSIX_C_SOURCE 200809L
+#include "filbertoss.h"
+#include "plain.h"
+
+#include <stdio.h>
+#include <stdlib.h>
+#include <string.h>
+#include <time.h>
+
+enum { SLOTS = 20000, REPEATS = 25, CELLS = 144 };
+
+static const size_t counts[] = {1, 4, 8, 16};
+static const uint32_t period_low[] = {1, 10, 200};
+static const uint32_t period_high[] = {8, 100, 4096};
+static const double loads[] = {0.5, 1.0, 2.0};
+static const char *const load_names[] = {"light", "full", "twice"};
+static const char *const period_names[] = {"1-8", "10-100", "200-4096"};
+
+struct cell {
+    size_t count;
+    uint32_t order, model;
+    int load, period;
+    struct plain_job jobs[16];
+    uint8_t bytes[96];
+    double share;
+};
+
+static uint64_t seed = 1;
+
+static uint32_t draw(uint32_t low, uint32_t high)
+{
+    seed ^= seed << 13;
+    seed ^= seed >> 7;
+    seed ^= seed << 17;
+    return low + (uint32_t)(seed % (high - low + 1));
+}
+
+/* A sound job whose part of the load is near `share`: the nearest of some draws. */
+static struct plain_job draw_job(uint32_t low, uint32_t high, double share)
+{
+    struct plain_job best = {1, high, 1, 1};
+    double best_off = 1e9;
+    for (int i = 0; i < 200; i++) {
+        struct plain_job j;
+        j.t = draw(low, high);
+        j.c = draw(1, j.t);
+        j.k = draw(1, 40);
+        double want = share * j.k * j.t / j.c;
+        j.m = want < 1 ? 1 : want > j.k ? j.k : (uint32_t)(want + 0.5);
+        double is = (double)j.m * j.c / ((double)j.k * j.t);
+        double off = is > share ? is - share : share - is;
+        if (off < best_off) {
+            best_off = off;
+            best = j;
+        }
+    }
+    return best;
+}
+
+static struct cell make_cell(int index)
+{
+    struct cell c;
+    memset(&c, 0, sizeof c);
+    c.period = index % 3;
+    c.load = index / 3 % 3;
+    c.model = (uint32_t)(index / 9 % 2);
+    c.order = (uint32_t)(index / 18 % 2);
+    c.count = counts[index / 36];
+    seed = 88172645463325252u + (uint64_t)(c.count * 9 + (size_t)c.load * 3 + (size_t)c.period);
+    for (size_t i = 0; i < c.count; i++) {
+        struct plain_job j = draw_job(period_low[c.period], period_high[c.period], loads[c.load] / (double)c.count);
+        c.jobs[i] = j;
+        c.share += (double)j.m * j.c / ((double)j.k * j.t);
+        uint8_t *b = c.bytes + 6 * i;
+        b[0] = (uint8_t)(j.c & 255);
+        b[1] = (uint8_t)(j.c >> 8);
+        b[2] = (uint8_t)(j.t & 255);
+        b[3] = (uint8_t)(j.t >> 8);
+        b[4] = (uint8_t)j.m;
+        b[5] = (uint8_t)j.k;
+    }
+    return c;
+}
+
+static uint8_t by_entry[SLOTS], by_plain[SLOTS];
+
+static void run_entry(const struct cell *c, size_t n)
+{
+    uint32_t answer = filbertoss_fill(c->bytes, 6 * c->count, c->order, c->model, by_entry, sizeof by_entry, 0, n);
+    if (answer != 0) {
+        fprintf(stderr, "bench: the entry refused a sound list by %u\n", answer);
+        exit(1);
+    }
+}
+
+static void run_plain(const struct cell *c, size_t n)
+{
+    plain_fill(c->jobs, c->count, c->order, c->model, by_plain, n);
+}
+
+static void compare(const struct cell *c, int index, size_t n)
+{
+    run_entry(c, n);
+    run_plain(c, n);
+    if (memcmp(by_entry, by_plain, n) != 0) {
+        fprintf(stderr, "bench: cell %d: the outputs differ\n", index);
+        exit(1);
+    }
+}
+
+static double best_ns(void (*run)(const struct cell *, size_t), const struct cell *c)
+{
+    double best = 1e18;
+    for (int i = 0; i < REPEATS; i++) {
+        struct timespec a, b;
+        clock_gettime(CLOCK_MONOTONIC, &a);
+        run(c, SLOTS);
+        clock_gettime(CLOCK_MONOTONIC, &b);
+        double ns = (double)(b.tv_sec - a.tv_sec) * 1e9 + (double)(b.tv_nsec - a.tv_nsec);
+        if (ns < best)
+            best = ns;
+    }
+    return best / SLOTS;
+}
+
+static void table(FILE *csv)
+{
+    double sum = 0, least = 1e18;
+    printf("jobs order model    load  periods    ns a slot   plain C  C's time / ours\n");
+    if (csv)
+        fprintf(csv, "jobs,order,model,load,periods,share,ns_entry,ns_plain,ratio\n");
+    for (int i = 0; i < CELLS; i++) {
+        struct cell c = make_cell(i);
+        compare(&c, i, SLOTS);
+        double ours = best_ns(run_entry, &c), plain = best_ns(run_plain, &c), ratio = plain / ours;
+        const char *order = c.order == 0 ? "V" : "W", *model = c.model == 0 ? "relaxed" : "original";
+        printf("%4zu %5s %-8s %5s  %-9s %10.1f %9.1f %9.2f\n", c.count, order, model, load_names[c.load],
+               period_names[c.period], ours, plain, ratio);
+        if (csv)
+            fprintf(csv, "%zu,%s,%s,%s,%s,%.3f,%.2f,%.2f,%.3f\n", c.count, order, model, load_names[c.load],
+                    period_names[c.period], c.share, ours, plain, ratio);
+        sum += ratio;
+        if (ratio < least)
+            least = ratio;
+    }
+    printf("mean ratio %.2f, least %.2f, %d cells of %d slots, best of %d\n", sum / CELLS, least, CELLS, SLOTS, REPEATS);
+}
+
+int main(int argc, char **argv)
+{
+    if (argc == 2 && strcmp(argv[1], "--compare") == 0) {
+        for (int i = 0; i < CELLS; i++) {
+            struct cell c = make_cell(i);
+            compare(&c, i, 4000);
+        }
+        printf("bench: %d lists, 4000 slots each, equal to plain C\n", CELLS);
+        return 0;
+    }
+    if (argc == 4 && strcmp(argv[1], "--only") == 0) {
+        struct cell c = make_cell(atoi(argv[3]) % CELLS);
+        if (strcmp(argv[2], "entry") == 0)
+            run_entry(&c, SLOTS);
+        else if (strcmp(argv[2], "plain") == 0)
+            run_plain(&c, SLOTS);
+        return 0;
+    }
+    if (argc == 3 && strcmp(argv[1], "--csv") == 0) {
+        FILE *csv = fopen(argv[2], "w");
+        if (!csv) {
+            perror(argv[2]);
+            return 1;
+        }
+        table(csv);
+        return fclose(csv) == 0 ? 0 : 1;
+    }
+    table(NULL);
+    return 0;
+}

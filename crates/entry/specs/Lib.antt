@@ -1,3 +1,4 @@
--- What the contracts of the C entries say.
+-- What the contracts of the C entries say, and what a reader may conclude from them.
 pub mod JobBytes
 pub mod Entry
+pub mod Meaning

@@ -23,9 +23,9 @@ pub fn put_text(buf: &mut [u8], at: usize, text: &[u8]) -> usize
 fn digit_count(x: u64) -> usize
     ensures { λ r. ⌜ r ≡ length (decimalOf x) ⌝ }
 {
-    let mut rest = x / 10;
+    let mut rest = x;
     let mut count: usize = 1;
-    while rest != 0 {
+    while rest >= 10 {
         rest = rest / 10;
         count += 1;
     }

@@ -1,3 +1,4 @@
 -- Laws beside the functions' own proofs.
 pub mod FillLaws
 pub mod WriteLaws
+pub mod Meaning

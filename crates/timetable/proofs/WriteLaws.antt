@@ -1,16 +1,17 @@
 -- The writer's answer, state and bytes, by its tests.
 use mathlib.Core.Path.{_≡_, refl, ap, _∙_}
 use mathlib.Core.Bool.{Bool, true, false, cond}
-use mathlib.Core.List.{List, [], _++_}
+use mathlib.Core.List.{List, []}
 use Prim.Native.Nat.{ℕ, _+_, _≤_, _<_}
 use lib.Dec.{leb, eqb}
-use lib.ListN.{length, take, drop}
+use lib.ListN.{length}
 use borrow.Author.Tests.{le-leb, lt-leb}
 use Rattle.job.specs.Told.{Told, row, passed}
 use Rattle.run.specs.declared.state.State.{State}
 use Rattle.run.specs.State.{clockMost}
 use Rattle.run.specs.Range.{stateInRange}
 use Rattle.run.specs.Run.{afterSlots, choicesOf}
+use Rattle.text.specs.Written.{written}
 use Rattle.timetable.specs.Table.{writeTold, writeState, writeBytes}
 
 -- answer, state and bytes of one call
@@ -24,14 +25,14 @@ module _ (s : State) (bytes : List ℕ) (offset n : ℕ) where
   answers-by :
       (t : Told) → t ≡ writeTold s (length bytes) offset n
       → Answers s bytes offset n t (cond (eqb (t .number) 0) (afterSlots s n) s)
-      (cond (eqb (t .number) 0) (take offset bytes ++ (choicesOf s n ++ drop (offset + n) bytes)) bytes)
+      (cond (eqb (t .number) 0) (written bytes offset (choicesOf s n)) bytes)
   unfolding writeState writeBytes
   answers-by t e =
       record {
         told-is = e;
         state-is = ap (λ (x : Told). cond (eqb (x .number) 0) (afterSlots s n) s) e;
         bytes-are =
-            ap (λ (x : Told). cond (eqb (x .number) 0) (take offset bytes ++ (choicesOf s n ++ drop (offset + n) bytes)) bytes) e;
+            ap (λ (x : Told). cond (eqb (x .number) 0) (written bytes offset (choicesOf s n)) bytes) e;
       }
 
   pub refused-ten : stateInRange s ≡ false → Answers s bytes offset n (row 10 []) s bytes
@@ -49,9 +50,9 @@ module _ (s : State) (bytes : List ℕ) (offset n : ℕ) where
     refused-eleven h c =
         answers-by (row 11 []) (rw (sound, le-leb (offset + n) (length bytes) h, lt-leb (s .clock + n) clockMost c))
 
-    pub written :
+    pub writes-on :
         offset + n ≤ length bytes → s .clock + n ≤ clockMost
-        → Answers s bytes offset n passed (afterSlots s n) (take offset bytes ++ (choicesOf s n ++ drop (offset + n) bytes))
+        → Answers s bytes offset n passed (afterSlots s n) (written bytes offset (choicesOf s n))
     unfolding writeTold
-    written h c =
+    writes-on h c =
         answers-by passed (rw (sound, le-leb (offset + n) (length bytes) h, le-leb (s .clock + n) clockMost c))

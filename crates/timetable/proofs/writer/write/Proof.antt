@@ -17,8 +17,10 @@ use Rattle.run.specs.declared.state.State.{State}
 use Rattle.run.specs.Range.{stateInRange}
 use Rattle.run.specs.Run.{afterSlots, choicesOf}
 use Rattle.run.proofs.RangeLaws.{range-exactly}
+use Rattle.run.proofs.RunLaws.{choices-long}
+use Rattle.text.specs.Written.{written}
 use Rattle.timetable.specs.Table.{writeTold, writeState, writeBytes}
-use Rattle.timetable.proofs.WriteLaws.{Answers, refused-ten, refused-twelve, refused-eleven, written}
+use Rattle.timetable.proofs.WriteLaws.{Answers, refused-ten, refused-twelve, refused-eleven, writes-on}
 use Rattle.timetable.proofs.writer.write.Statement.{statement}
 use Rattle.timetable.proofs.writer.write.Tie as tie
 
@@ -36,10 +38,10 @@ part-long bytes offset n h = simp (length-take, length-drop) (omega arith)
 
 -- and it goes back into its place
 put-back :
-    (bytes : List ℕ) (offset n : ℕ) {part new : List ℕ} → part ≡ new
-    → take offset bytes ++ (part ++ drop (offset + n - offset) (drop offset bytes)) ≡ take offset bytes ++ (new ++ drop (offset + n) bytes)
-put-back bytes offset n e =
-    let end : offset + (offset + n - offset) ≡ offset + n = omega arith in
+    (bytes new : List ℕ) (offset n : ℕ) {part : List ℕ} → part ≡ new → length new ≡ n
+    → take offset bytes ++ (part ++ drop (offset + n - offset) (drop offset bytes)) ≡ written bytes offset new
+put-back bytes new offset n e long =
+    let end : offset + (offset + n - offset) ≡ offset + length new = omega arith in
     rw (e, drop-drop (offset + n - offset) offset bytes, end)
 
 in-range-requires : tie.Need-in-range-requires
@@ -107,13 +109,13 @@ returns-5 c =
     let start = c .before .before .before .before .before .before .before .before .before .before .before .args in
     let bytes = start .buf .now in
     let fits : start .offset + start .n ≤ length bytes = omega arith in
-    let a = written (start .state) bytes (start .offset) (start .n) (sym (c .before .before .before .before .before .before .before .before .before .in-range .ensures) ∙ not-false _ (c .before .before .before .before .before .before .before .before .if1 .left)) fits (omega arith) in
+    let a = writes-on (start .state) bytes (start .offset) (start .n) (sym (c .before .before .before .before .before .before .before .before .before .in-range .ensures) ∙ not-false _ (c .before .before .before .before .before .before .before .before .if1 .left)) fits (omega arith) in
     let long = part-long bytes (start .offset) (start .n) fits in
     let filled = c .before .before .fill .ensures in (
       a .told-is,
       (
         filled .0 ∙ ap (afterSlots (start .state)) long ∙ a .state-is,
-        put-back bytes (start .offset) (start .n) (filled .1 ∙ ap (choicesOf (start .state)) long) ∙ a .bytes-are,
+        put-back bytes (choicesOf (start .state) (start .n)) (start .offset) (start .n) (filled .1 ∙ ap (choicesOf (start .state)) long) (choices-long (start .state) (start .n)) ∙ a .bytes-are,
       ),
     )
 

@@ -1,0 +1,4 @@
+-- Laws beside the functions' own proofs.
+pub mod JobLaws
+pub mod EntryLaws
+pub mod Meaning

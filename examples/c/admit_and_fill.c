@@ -1,0 +1,89 @@
+/* One second of the board, from C: is the list admitted, and who gets which slot?
+ *
+ * Slots are 250 microseconds, so a second has 4,000. Build it as tests/gate/c-entry does:
+ *     rt staticlib entry
+ *     gcc -std=c99 -I include examples/c/admit_and_fill.c target/staticlib/libentry.a
+ */
+#include <stdio.h>
+
+#include "filbertoss.h"
+
+#define SLOTS 4000
+#define SHOWN 40
+
+struct job {
+    const char *name;
+    unsigned c, t, m, k;
+};
+
+/* The board's jobs: slots for an instance, slots in a period, and how many of how many periods. */
+static const struct job board[] = {
+    {"gyro", 1, 4, 1, 1},     /* every millisecond, never missed */
+    {"rows", 3, 10, 4, 5},    /* a band of rows every 2.5 ms, four of five */
+    {"preview", 8, 40, 1, 2}, /* every 10 ms, every other one will do */
+    {"log", 5, 100, 3, 4},    /* every 25 ms, three of four */
+};
+
+#define JOBS (sizeof board / sizeof board[0])
+
+/* A job's six bytes: C and T low byte first, then m and k. */
+static void put_job(uint8_t *at, const struct job *job)
+{
+    at[0] = (uint8_t)(job->c & 0xff);
+    at[1] = (uint8_t)(job->c >> 8);
+    at[2] = (uint8_t)(job->t & 0xff);
+    at[3] = (uint8_t)(job->t >> 8);
+    at[4] = (uint8_t)job->m;
+    at[5] = (uint8_t)job->k;
+}
+
+int main(void)
+{
+    static uint8_t slots[SLOTS];
+    uint8_t jobs[JOBS * FILBERTOSS_JOB_BYTES];
+    unsigned long got[JOBS] = {0};
+    unsigned long idle = 0;
+    uint32_t answer;
+    size_t i;
+
+    for (i = 0; i < JOBS; i++) {
+        put_job(jobs + i * FILBERTOSS_JOB_BYTES, &board[i]);
+    }
+
+    answer = filbertoss_admit(jobs, sizeof jobs, FILBERTOSS_RELAXED);
+    if (answer == 0) {
+        printf("admitted\n");
+    } else {
+        printf("not admitted: refusal %lu\n", (unsigned long)answer);
+    }
+
+    answer = filbertoss_fill(jobs, sizeof jobs, FILBERTOSS_ORDER_W, FILBERTOSS_RELAXED, slots,
+                             sizeof slots, 0, SLOTS);
+    if (answer != 0) {
+        printf("no timetable: refusal %lu\n", (unsigned long)answer);
+        return 1;
+    }
+
+    for (i = 0; i < SLOTS; i++) {
+        if (slots[i] == FILBERTOSS_IDLE) {
+            idle++;
+        } else {
+            got[slots[i]]++;
+        }
+    }
+    for (i = 0; i < JOBS; i++) {
+        printf("job %lu %-7s %4lu slots\n", (unsigned long)i, board[i].name, got[i]);
+    }
+    printf("idle          %4lu slots\n", idle);
+
+    printf("first %d:", SHOWN);
+    for (i = 0; i < SHOWN; i++) {
+        if (slots[i] == FILBERTOSS_IDLE) {
+            printf(" -");
+        } else {
+            printf(" %u", (unsigned)slots[i]);
+        }
+    }
+    printf("\n");
+    return 0;
+}

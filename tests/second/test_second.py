@@ -1,0 +1,292 @@
+"""Tests of the second program: the paper's runs, edges, and sheets worked by hand.
+
+Plain Python: `python3 test_second.py` prints a count and fails with status 1.
+"""
+
+import sys
+
+sys.dont_write_bytecode = True
+
+import sheets
+from slots import ORDER_V, ORDER_W, ORIGINAL, RELAXED, admission, check, output, run
+
+done = failed = 0
+
+
+def equal(name, found, expected):
+    global done, failed
+    done += 1
+    if found != expected:
+        failed += 1
+        print(f"FAILED {name}\n  expected {expected!r}\n  found    {found!r}")
+
+
+def jobs(text):
+    """Jobs written C T m k, with commas between them."""
+    return [tuple(map(int, job.split())) for job in text.split(",")]
+
+
+def choices(text, order, model, slots):
+    answers = run(jobs(text), order, model, slots)
+    return " ".join("-" if choice is None else str(choice) for choice, _, _ in answers)
+
+
+def prints(name, sheet, *lines):
+    expected = "".join(line + "\n" for line in lines)
+    equal(name, output(sheet.encode("latin-1")).decode("ascii"), expected)
+
+
+# --- Runs worked by hand, A to I ------------------------------------------------
+
+R, O, V, W = RELAXED, ORIGINAL, ORDER_V, ORDER_W
+A, C, E = "1 2 1 2, 1 3 2 2", "2 4 1 1, 1 2 2 4", "2 3 1 2, 1 2 1 1"
+F, G = "1 1 1 1, 1 2 1 1", "1 2 1 1, 2 2 1 1"
+equal("A", choices(A, W, R, 6), "0 1 - 1 0 -")
+equal("B", choices(A, V, R, 6), "1 0 - 1 0 -")
+equal("C", choices(C, W, R, 8), "0 0 1 1 0 0 - -")
+equal("D", choices(C, W, O, 8), "0 0 1 - 0 0 1 -")
+equal("E", choices(E, W, R, 6), "1 0 1 0 1 -")
+equal("F", run(jobs(F), W, R, 2), [(0, [], []), (0, [1], [1])])
+equal("G", run(jobs(G), W, R, 2), [(0, [], []), (1, [], [1])])
+equal("H", admission(jobs("1 2 1 1, 1 3 1 1, 1 6 1 1"), R), (0, None, 6, 6))
+equal("I", admission(jobs("1 2 1 1, 1 2 1 1, 1 100 1 255"), R), (9, None, 25_500, 25_501))
+
+# "Whole output of `slots` for case A"
+prints(
+    "A whole",
+    "W R 6\n1 2 1 2\n1 3 2 2\n",
+    "cycle 12 load 7 admitted",
+    "0 0",
+    "1 1",
+    "2 -",
+    "3 1",
+    "4 0",
+    "5 -",
+    "given 4 idle 2 tagged 0 short 0",
+)
+# "slot 1 of case F: "1 0 t1 s1""
+prints(
+    "F whole",
+    "W R 2\n1 1 1 1\n1 2 1 1\n",
+    "cycle 2 load 3 over",
+    "0 0",
+    "1 0 t1 s1",
+    "given 2 idle 0 tagged 1 short 1",
+)
+
+# --- Edges ----------------------------------------------------------------------
+
+equal("T 4,096", check(jobs("1 4096 1 1")), (0, None))
+equal("T 4,097", check(jobs("1 4097 1 1")), (3, 0))
+equal("T 0", check(jobs("1 0 1 1")), (3, 0))
+equal("C = T", check(jobs("7 7 1 1")), (0, None))
+equal("C = T+1", check(jobs("8 7 1 1")), (4, 0))
+equal("C 0", check(jobs("0 7 1 1")), (4, 0))
+equal("k 255", check(jobs("1 1 1 255")), (0, None))
+equal("k 256", check(jobs("1 1 1 256")), (5, 0))
+equal("k 0", check(jobs("1 1 1 0")), (5, 0))
+equal("m = k", check(jobs("1 1 3 3")), (0, None))
+equal("m = k+1", check(jobs("1 1 4 3")), (6, 0))
+equal("m 0", check(jobs("1 1 0 3")), (6, 0))
+equal("no jobs", check([]), (1, None))
+equal("16 jobs", check(jobs("1 1 1 1") * 16), (0, None))
+equal("17 jobs", check(jobs("1 1 1 1") * 17), (2, None))
+equal("17 jobs at fault", check(jobs("0 0 0 0") * 17), (2, None))
+equal("all at fault: T", check(jobs("0 0 0 0")), (3, 0))
+equal("C before k", check(jobs("0 1 0 0")), (4, 0))
+equal("k before m", check(jobs("1 1 0 0")), (5, 0))
+equal("lowest job", check(jobs("1 1 1 1, 1 1 2 1, 1 0 1 1")), (6, 1))
+
+equal("model 2", admission([], 2), (15, None, 0, 0))
+equal("list before 7", admission([], O), (1, None, 0, 0))
+equal("fault before 7", admission(jobs("1 1 1 1, 2 1 1 1"), O), (4, 1, 0, 0))
+equal("7", admission(jobs("1 2 1 1"), O), (7, None, 0, 0))
+# 4,095 x 4,097 = 4,096 x 4,096 - 1 (4,097 = 17 x 241), and 97 x 257 x 673 = 16,777,217.
+edge = "1 4095 1 1, 1 241 1 17"
+equal("cycle 16,777,215", admission(jobs(edge), R), (0, None, 16_777_215, 4097 + 4095))
+equal("cycle 16,777,217", admission(jobs("1 257 1 97, 1 673 1 1"), R), (8, None, 0, 0))
+equal("8 before 9", admission(jobs("1 257 1 97, 673 673 1 1, 1 1 1 1"), R), (8, None, 0, 0))
+equal("7 before 8", admission(jobs("1 257 1 97, 1 673 1 1"), O), (7, None, 0, 0))
+equal("load = cycle", admission(jobs("4096 4096 255 255"), R), (0, None, 1_044_480, 1_044_480))
+
+# --- Whole outputs worked by hand -----------------------------------------------
+
+# Row 7 and row 8: numbers 0 and 0, and the slots are run.
+prints(
+    "D whole",
+    "W O 8\n2 4 1 1\n1 2 2 4\n",
+    "cycle 0 load 0 not judged",
+    *["0 0", "1 0", "2 1", "3 -", "4 0", "5 0", "6 1", "7 -"],
+    "given 6 idle 2 tagged 0 short 0",
+)
+prints(
+    "cycle too long",
+    "W R 3\n1 257 1 97\n1 673 1 1\n",
+    "cycle 0 load 0 cycle too long",
+    *["0 1", "1 0", "2 -"],
+    "given 2 idle 1 tagged 0 short 0",
+)
+# Deadlines 5/2 and 7/3: equal when rounded down, but job 1 is first.
+prints(
+    "exact fractions",
+    "V R 1\n1 1 2 5\n1 1 3 7\n",
+    "cycle 35 load 29 admitted",
+    "0 1",
+    "given 1 idle 0 tagged 0 short 0",
+)
+# Job 1 gets nothing.  Slot 1: deadline 1 + 2/2 = 2, tagged.  Slot 2: 2 + 1/2, but it
+# has its tag; the window ends short.  Slot 3 opens the next one, with no tag.
+prints(
+    "first tag once in a window",
+    "W R 6\n1 1 1 1\n1 1 2 3\n",
+    "cycle 3 load 5 over",
+    *["0 0", "1 0 t1", "2 0 s1", "3 0", "4 0 t1", "5 0 s1"],
+    "given 6 idle 0 tagged 2 short 2",
+)
+prints(
+    "tags, then shorts",
+    "V R 1\n1 1 1 1\n1 1 1 1\n1 1 1 1\n",
+    "cycle 1 load 3 over",
+    "0 0 t1 t2 s1 s2",
+    "given 1 idle 0 tagged 2 short 2",
+)
+# Job 1 loses what slot 2 gave, has its instance of period 2 after slot 4, and in slot 5
+# is not eligible but lacks one: deadline 3 + 3/1 = 6, tagged in an idle slot.
+prints(
+    "original: tagged while not eligible",
+    "W O 6\n2 6 1 1\n2 3 2 2\n",
+    "cycle 0 load 0 not judged",
+    *["0 0", "1 0", "2 1", "3 1", "4 1", "5 - t1 s1"],
+    "given 5 idle 1 tagged 1 short 1",
+)
+# The same jobs, relaxed: the slot is kept, so 5 serves the second instance.
+prints(
+    "relaxed: a begun instance is kept",
+    "W R 6\n2 6 1 1\n2 3 2 2\n",
+    "cycle 6 load 6 admitted",
+    *["0 0", "1 0", "2 1", "3 1", "4 1", "5 1"],
+    "given 6 idle 0 tagged 0 short 0",
+)
+# A job never runs ahead of its periods: one slot in each of the first two.
+prints(
+    "relaxed: not ahead",
+    "V R 6\n1 2 2 3\n",
+    "cycle 6 load 2 admitted",
+    *["0 0", "1 -", "2 0", "3 -", "4 -", "5 -"],
+    "given 2 idle 4 tagged 0 short 0",
+)
+
+# --- Refused sheets, the row and the place worked out by hand -------------------
+
+JOBS = "1 2 1 2\n"  # 8 bytes; behind "V R 6\n" it stands at 6 to 13
+for sheet, refusal in (
+    # The first line: letter 0, space 1, letter 2, space 3, the slot count from 4.
+    ("", "13 at 0"),  # ends too soon
+    ("V", "13 at 1"),
+    ("V ", "13 at 2"),
+    ("V R", "13 at 3"),
+    ("V R ", "13 at 4"),
+    ("V R 6", "13 at 5"),
+    ("\n", "13 at 0"),
+    ("\nV R 6\n", "13 at 0"),
+    (" V R 6\n", "13 at 0"),
+    ("v R 6\n", "13 at 0"),
+    ("R V 6\n", "13 at 0"),
+    ("VR 6\n", "13 at 1"),
+    ("V\tR 6\n", "13 at 1"),
+    ("V  R 6\n", "13 at 2"),
+    ("V W 6\n", "13 at 2"),
+    ("V R6\n", "13 at 3"),
+    ("V R  6\n", "13 at 4"),
+    ("V R -6\n", "13 at 4"),
+    ("V R \n", "13 at 4"),
+    ("V R 06\n" + JOBS, "13 at 5"),  # after 0 no digit
+    ("V R 00\n", "13 at 5"),
+    ("V R 6 \n", "13 at 5"),
+    ("V R 6\r\n" + JOBS, "13 at 5"),
+    ("V R 6.\n", "13 at 5"),
+    ("V R 123456\n", "13 at 9"),  # the sixth digit
+    ("V R 6\x00\n", "13 at 5"),
+    # A job line: from 6.
+    ("V R 6\n\n", "13 at 6"),
+    ("V R 6\n\n" + JOBS, "13 at 6"),
+    ("V R 6\n 1 2 1 2\n", "13 at 6"),
+    ("V R 6\nV R 6\n", "13 at 6"),
+    ("V R 6\n\xff", "13 at 6"),
+    ("V R 6\n1", "13 at 7"),
+    ("V R 6\n1 2 1", "13 at 11"),
+    ("V R 6\n1 2 1 ", "13 at 12"),
+    ("V R 6\n1 2 1 2", "13 at 13"),
+    ("V R 6\n1  2 1 2\n", "13 at 8"),
+    ("V R 6\n1 -2 1 2\n", "13 at 8"),
+    ("V R 6\n1 02 1 2\n", "13 at 9"),
+    ("V R 6\n1 2 1\n", "13 at 11"),
+    ("V R 6\n1 2 1 \n", "13 at 12"),
+    ("V R 6\n1 2 1 2 \n", "13 at 13"),
+    ("V R 6\n1 2 1 2 3\n", "13 at 13"),
+    ("V R 6\n1 2 1 2\r\n", "13 at 13"),
+    ("V R 6\n1 2 1 123456\n", "13 at 17"),
+    ("V R 6\n123456 2 1 2\n", "13 at 11"),
+    ("V R 6\n" + JOBS + "\n", "13 at 14"),
+    ("V R 6\n" + JOBS + "1 2 x", "13 at 18"),
+    # The rows that come after, in their order.
+    ("V R 0\n1 x", "13 at 8"),  # 13 before 16
+    ("V R 0\n", "16"),  # 16 before 1
+    ("V R 4097\n0 0 0 0\n", "16"),  # 16 before 3
+    ("V R 99999\n" + JOBS, "16"),
+    ("V R 0\n" + JOBS * 17, "16"),  # 16 before 2
+    ("W O 6\n", "1"),
+    ("V R 6\n" + JOBS * 17, "2"),
+    ("V R 6\n" + "0 0 0 0\n" * 40, "2"),  # 2 before 3
+    ("V R 6\n" + JOBS + "0 99999 1 2\n", "3 job 1"),
+    ("V R 6\n1 0 1 2\n", "3 job 0"),
+    ("V R 6\n" + JOBS * 15 + "3 2 1 2\n", "4 job 15"),
+    ("V O 6\n1 2 1 256\n0 0 0 0\n", "5 job 0"),
+    ("V R 6\n1 2 3 2\n", "6 job 0"),
+    # Lengths: 6 + 511 x 8 = 4,094 bytes, and the last two or three.
+    ("V R 6\n" + JOBS * 511, "2"),
+    ("V R 10\n" + JOBS * 510 + "10 2 1 2\n", "2"),  # 7 + 4,080 + 9 = 4,096
+    ("V R 6\n" + JOBS * 511 + "1 ", "13 at 4096"),  # 4,096 bytes that break off
+    ("V R 6\n" + JOBS * 511 + "11", "13 at 4096"),
+    ("V R 6\n" + JOBS * 511 + "1\n", "13 at 4095"),
+    ("V R 6\n" + JOBS * 511 + "1 2", "17"),  # 4,097 bytes
+    ("V R 6\n" + JOBS * 512, "17"),
+    ("x" * 4096, "13 at 0"),
+    ("x" * 4097, "17"),  # 17 before 13
+    ("V R " + "1" * 4092, "13 at 9"),
+    ("V R 0\n" * 1000, "17"),
+):
+    prints(f"sheet {sheet[:40]!r} ({len(sheet)})", sheet, "refused " + refusal)
+
+# As many jobs and as many slots as are allowed.
+prints(
+    "16 jobs",
+    "V R 1\n" + "1 4096 1 255\n" * 16,
+    "cycle 1044480 load 16 admitted",
+    "0 0",
+    "given 1 idle 0 tagged 0 short 0",
+)
+equal("4,096 slots", output(b"V O 4096\n1 4096 255 255\n").count(b"\n"), 4098)
+
+# --- The generator --------------------------------------------------------------
+
+found = sheets.job_bytes(jobs("1 2 3 4, 4096 258 254 255"))
+equal("job bytes", list(found), [1, 0, 2, 0, 3, 4, 0, 16, 2, 1, 254, 255])
+equal("same seed", sheets.sheet(sheets.draw(3, 4)), sheets.sheet(sheets.draw(3, 4)))
+kinds = set()
+for number in range(600):
+    line = output(sheets.sheet(sheets.draw("kinds", number))).split(b"\n")[0].split()
+    kinds.add(b" ".join(line[1:2] if line[0] == b"refused" else line[4:]).decode())
+expected = {"admitted", "over", "cycle too long", "not judged"}
+equal("kinds", kinds, expected | {str(row) for row in (1, 2, 3, 4, 5, 6, 13, 16, 17)})
+
+# "the promise of no short window is for W": tried on the admitted lists of many.
+for number in range(400):
+    some = sheets.any_jobs(sheets.draw("promise", number))
+    row, _, cycle, _ = admission(some, RELAXED)
+    if row == 0:
+        answers = run(some, ORDER_W, RELAXED, min(cycle + 1, 150))
+        equal(f"no short window {some}", [shorts for _, _, shorts in answers if shorts], [])
+
+print(f"test_second: {done - failed} of {done} passed")
+sys.exit(1 if failed else 0)

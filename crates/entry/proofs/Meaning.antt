@@ -27,7 +27,7 @@ use Rattle.run.specs.Step.{startTold, startState}
 use Rattle.run.proofs.RangeLaws.{range-exactly}
 use Rattle.run.proofs.StartLaws.{start-checks, not-started, state-passed, start-sound}
 use Rattle.timetable.specs.Table.{writeTold}
-use Rattle.timetable.proofs.WriteLaws.{refused-twelve, refused-eleven, written}
+use Rattle.timetable.proofs.WriteLaws.{refused-twelve, refused-eleven, writes-on}
 use Rattle.entry.specs.JobBytes.{listFrom}
 use Rattle.entry.specs.Meaning.{Whole, fillNumber, Starts, AdmitRowFourteen, FillRowFourteen, FillRowFifteen, FillListRows, FillRowTwelve, FillRowEleven, FillPasses, FillNeverTen}
 use Rattle.entry.proofs.EntryLaws.{admit-broken, admit-judges, fill-broken, fill-starts, fill-writes}
@@ -153,7 +153,7 @@ module _ (jobs : List ℕ) (setting : Setting) (bytes : List ℕ) (offset n : �
 
   zero-given : Given 0
   zero-given s =
-      written-given (s .0) (written state bytes offset n (in-range (s .0)) (s .1) (omega (arith, at-zero (s .0), s .2)) .told-is)
+      written-given (s .0) (writes-on state bytes offset n (in-range (s .0)) (s .1) (omega (arith, at-zero (s .0), s .2)) .told-is)
 
   -- and of every number that is returned, that holds
   list-says : (r : ℕ) → 1 ≤ r → r ≤ 6 → ListRow r → Says r

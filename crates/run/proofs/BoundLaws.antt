@@ -1,11 +1,12 @@
 -- What the numbers of a sound place keep to, so that nothing computed from them wraps.
-use mathlib.Core.Path.{_≡_, refl, _∙_}
+use mathlib.Core.Path.{_≡_, refl, sym, ap, _∙_}
+use mathlib.Core.Logic.{_↔_}
 use mathlib.Core.Bool.{Bool, true, false, _&&_, cond, and-false}
 use Prim.Native.Nat.{ℕ, _+_, _-_, _*_, _/_, _≤_, _<_}
-use native.Mathlib.Nat.{mul-le-mul, mul-le-mul-left, mul-comm, div-le-of-le-mul, le-refl, le-trans}
+use native.Mathlib.Nat.{mul-le-mul, mul-le-mul-right, div-lt-iff-lt-mul, mul-comm, div-le-of-le-mul, le-refl, le-trans}
 use native.Mathlib.Omega.{arith}
 use lib.Dec.{leb, ltb, eqb}
-use borrow.Author.Tests.{eqb-true, eqb-false, lt-leb}
+use borrow.Author.Tests.{eqb-true, eqb-false, ltb-true, ltb-false, lt-ltb, le-ltb, leb-true, lt-leb}
 use lib.IntN.{pos, natAbs, _-ℤ_, _*ℤ_}
 use mir.Syntax.{w64}
 use mir.Val.{SFits, toZ, ofZ}
@@ -73,25 +74,56 @@ module _ {setting : Setting} {q : Place} (s : SoundPlace setting q) where
       let hd : q .at .e * owedOf setting q ≤ 4294967295 = omega (arith, gone-high) in
       rw (f, g, small-pos hw, small-pos hd)
 
-  -- the tag's condition without signs, and where m decides it
-  pub overdue-is : overdueOf setting q ≡ (ltb 0 (owedOf setting q) && leb (windowLeft q) ((q .at .e + 1) * owedOf setting q))
+  -- m' > 0, without a division
+  pub lacks-is : (b : Bool) → inRelaxed setting ≡ b → cond b (ltb (q .at .u) (q .job .m * q .job .c)) (ltb (q .at .s) (q .job .m)) ≡ ltb 0 (owedOf setting q)
+  unfolding owedOf finishedOf
+  lacks-is true e = rw e (same (ltb (q .at .u) (q .job .m * q .job .c)) refl)
+    where
+      part : (q .at .u / q .job .c < q .job .m) ↔ (q .at .u < q .job .m * q .job .c)
+      part = div-lt-iff-lt-mul (omega arith)
+
+      same : (t : Bool) → ltb (q .at .u) (q .job .m * q .job .c) ≡ t → ltb (q .at .u) (q .job .m * q .job .c) ≡ ltb 0 (q .job .m - q .at .u / q .job .c)
+      same true h = h ∙ sym (lt-ltb 0 (q .job .m - q .at .u / q .job .c) (let k = part .1 (ltb-true (q .at .u) (q .job .m * q .job .c) h) in omega arith))
+      same false h =
+          let few : q .at .u / q .job .c < q .job .m → ⊥ = λ k. let l = part .0 k in let n = ltb-false (q .at .u) (q .job .m * q .job .c) h in omega arith in
+          h ∙ sym (le-ltb 0 (q .job .m - q .at .u / q .job .c) (omega arith))
+  lacks-is false e = rw e (same (ltb (q .at .s) (q .job .m)) refl)
+    where
+      same : (t : Bool) → ltb (q .at .s) (q .job .m) ≡ t → ltb (q .at .s) (q .job .m) ≡ ltb 0 (q .job .m - q .at .s)
+      same true h = h ∙ sym (lt-ltb 0 (q .job .m - q .at .s) (let k = ltb-true (q .at .s) (q .job .m) h in omega arith))
+      same false h = h ∙ sym (le-ltb 0 (q .job .m - q .at .s) (let k = ltb-false (q .at .s) (q .job .m) h in omega arith))
+
+  -- the tag's condition without signs, and when it is too early for it
+  pub overdue-is : leb (windowLeft q) ((q .at .e + 1) * owedOf setting q) ≡ overdueOf setting q
   unfolding overdueOf numeratorOf
   overdue-is =
       let product : q .at .e * owedOf setting q + owedOf setting q ≡ (q .at .e + 1) * owedOf setting q = omega arith in
       rw (difference-most (windowLeft q) (q .at .e * owedOf setting q) (owedOf setting q), product)
+      (go (leb (windowLeft q) ((q .at .e + 1) * owedOf setting q)) refl)
+    where
+      go : (t : Bool) → leb (windowLeft q) ((q .at .e + 1) * owedOf setting q) ≡ t → leb (windowLeft q) ((q .at .e + 1) * owedOf setting q) ≡ (ltb 0 (owedOf setting q) && leb (windowLeft q) ((q .at .e + 1) * owedOf setting q))
+      go false e = rw e (sym (and-false (ltb 0 (owedOf setting q))))
+      go true e =
+          let some : owedOf setting q ≡ 0 → ⊥ =
+          λ none.
+          let h = leb-true (windowLeft q) ((q .at .e + 1) * owedOf setting q) e in
+          omega (arith, window-low, ap ((q .at .e + 1) *_) none)
+          in
+          rw (e, lt-ltb 0 (owedOf setting q) (omega arith))
 
-  pub owed-most : owedOf setting q ≤ q .job .m
+  owed-most : owedOf setting q ≤ q .job .m
   unfolding owedOf
   owed-most = omega arith
 
-  pub not-overdue : (q .at .e + 1) * q .job .m < windowLeft q → overdueOf setting q ≡ false
-  not-overdue h =
-      let less = mul-le-mul-left (q .at .e + 1) owed-most in
-      overdue-is
-      ∙ rw (lt-leb (windowLeft q) ((q .at .e + 1) * owedOf setting q) (omega arith)) (and-false (ltb 0 (owedOf setting q)))
+  pub too-early : q .at .p + q .job .m ≤ q .job .k → overdueOf setting q ≡ false
+  unfolding windowLeft
+  too-early h =
+      let less : (q .at .e + 1) * owedOf setting q ≤ q .job .t * q .job .m = mul-le-mul (omega arith) owed-most in
+      let more : (q .job .m + 1) * q .job .t ≤ (q .job .k - q .at .p + 1) * q .job .t = mul-le-mul-right (q .job .t) (omega arith) in
+      sym overdue-is ∙ lt-leb (windowLeft q) ((q .at .e + 1) * owedOf setting q) (omega arith)
 
-  pub next-high : (x : ℕ) → x ≤ 255 → (q .at .e + 1) * x ≤ 1044480
-  next-high x h = mul-le-mul {n₂ = 4096} {m₂ = 255} (omega arith) h
+  pub next-high : (q .at .e + 1) * owedOf setting q ≤ 1044480
+  next-high = mul-le-mul {n₂ = 4096} {m₂ = 255} (omega arith) owed-high
 
   pub distance-small : (i : ℕ) → Small (distanceOf setting i q)
   unfolding distanceOf

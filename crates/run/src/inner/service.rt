@@ -1,6 +1,7 @@
 // One place over one slot: what it is owed, whether it may be served, and what the slot makes of it.
 ghost use mathlib.Core.Path.{_≡_};
 ghost use mathlib.Core.Bool.{true};
+ghost use lib.Dec.{ltb};
 ghost use Rattle.run.specs.Sound.{SoundPlace};
 ghost use Rattle.run.specs.Place.{finishedOf, owedOf, windowLeft, eligibleOf, numeratorOf, overdueOf, firstTagged, servedOf, taggedOf, workedOf, windowEnds, turnedOf, shortOf, movedOf};
 use crate::place::Place;
@@ -62,27 +63,33 @@ pub fn numerator(setting: Setting, q: Place) -> i64
     (ahead as i64) - (gone as i64)
 }
 
-// Whether the virtual deadline is at most the next slot's number: k'T ≤ (e + 1) m', with m' > 0.
-// m' is at most m, so that most slots are decided before the division that m' may take.
+// Whether m' > 0, without the division that m' may take.
+pub fn lacks(setting: Setting, q: Place) -> bool
+    requires { ⌜ SoundPlace setting q ⌝ }
+    ensures { λ r. ⌜ r ≡ ltb 0 (owedOf setting q) ⌝ }
+{
+    if setting.model == Job::RELAXED {
+        return q.at.u < q.job.m * q.job.c;
+    }
+    q.at.s < q.job.m
+}
+
+// Whether m' > 0 and the virtual deadline is at most the next slot's number: k'T ≤ (e + 1) m', which
+// no m' = 0 meets.
 pub fn overdue(setting: Setting, q: Place) -> bool
     requires { ⌜ SoundPlace setting q ⌝ }
     ensures { λ r. ⌜ r ≡ overdueOf setting q ⌝ }
 {
-    let ahead = window_left(setting, q);
-    let next = q.at.e + 1;
-    if next * q.job.m < ahead {
-        return false;
-    }
-    let lacking = owed(setting, q);
-    (0 < lacking) & (ahead <= next * lacking)
+    window_left(setting, q) <= (q.at.e + 1) * owed(setting, q)
 }
 
-// Whether the slot tags the place for the first time in its window.
+// Whether the slot tags the place for the first time in its window. While more than m periods are
+// left, this one counted, no deadline is that near.
 pub fn first_tagged(setting: Setting, q: Place, chosen: bool) -> bool
     requires { ⌜ SoundPlace setting q ⌝ }
     ensures { λ r. ⌜ r ≡ firstTagged setting q chosen ⌝ }
 {
-    if chosen | q.at.tag {
+    if chosen | q.at.tag | (q.at.p + q.job.m <= q.job.k) {
         return false;
     }
     overdue(setting, q)
@@ -145,7 +152,7 @@ pub fn is_short(setting: Setting, q: Place) -> bool
     requires { ⌜ SoundPlace setting q ⌝ }
     ensures { λ r. ⌜ r ≡ shortOf setting q ⌝ }
 {
-    window_ends(setting, q) && 0 < owed(setting, q)
+    window_ends(setting, q) && lacks(setting, q)
 }
 
 // The slot passes: 'Where e reaches T the period ends; where the k-th period ends, the window ends.'

@@ -8,16 +8,16 @@ use Rattle.run.proofs.inner.service.is_short.Tie as tie
 window-ends-requires : tie.Need-window-ends-requires
 window-ends-requires c κs = search needs
 
-owed-requires : tie.Need-owed-requires
-owed-requires c κs = search needs
+lacks-requires : tie.Need-lacks-requires
+lacks-requires c κs = search needs
 
 returns : tie.Need-returns
 unfolding shortOf
-returns c = simp (sym (c .before .before .window-ends .ensures) ∙ c .before .if1 .taken, c .owed .ensures)
+returns c = simp (sym (c .before .before .window-ends .ensures) ∙ c .before .if1 .taken, c .lacks .ensures)
 
 returns-2 : tie.Need-returns-2
 unfolding shortOf
 returns-2 c = c .if1 .left ∙ simp (sym (c .before .window-ends .ensures) ∙ c .if1 .left)
 
 pub is-short-spec : {M : Type 1} → statement M
-is-short-spec = tie.close (tie.spec window-ends-requires owed-requires returns returns-2)
+is-short-spec = tie.close (tie.spec window-ends-requires lacks-requires returns returns-2)

@@ -3,3 +3,4 @@ pub mod Parts
 pub mod Slot
 pub mod Summary
 pub mod Refused
+pub mod Meaning

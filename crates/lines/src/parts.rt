@@ -2,8 +2,6 @@
 ghost use mathlib.Core.Path.{_≡_};
 ghost use Prim.Native.Nat.{_+_, _≤_};
 ghost use lib.ListN.{length};
-ghost use Rattle.text.specs.Ascii.{ascii};
-ghost use Rattle.text.specs.Decimal.{decimalOf};
 ghost use Rattle.text.specs.Written.{written};
 ghost use Rattle.lines.specs.Slot.{choiceText, setText};
 ghost use Rattle.lines.specs.Parts.{labelled};

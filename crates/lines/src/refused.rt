@@ -1,5 +1,6 @@
 // 'A refusal prints only "refused N", with " job J" for 3 to 6 or " at P" for 13.'
 ghost use mathlib.Core.Path.{_≡_};
+ghost use Prim.Native.Nat.{_+_, _≤_};
 ghost use lib.ListN.{length};
 ghost use Rattle.job.specs.Told.{told};
 ghost use Rattle.text.specs.Written.{written};
@@ -15,10 +16,10 @@ fn put_value(buf: &mut [u8], at: usize, refusal: Refusal) -> usize
     ensures { λ r. ⌜ now (buf .exit) ≡ written (now (buf .entry)) at (valueText (told refusal)) ⌝ }
 {
     match refusal {
-        Refusal::Period { job } => put_labelled(buf, at, b" job ", job as u64),
-        Refusal::Service { job } => put_labelled(buf, at, b" job ", job as u64),
-        Refusal::Window { job } => put_labelled(buf, at, b" job ", job as u64),
-        Refusal::Share { job } => put_labelled(buf, at, b" job ", job as u64),
+        Refusal::Period { job }
+        | Refusal::Service { job }
+        | Refusal::Window { job }
+        | Refusal::Share { job } => put_labelled(buf, at, b" job ", job as u64),
         Refusal::SheetForm { place } => put_labelled(buf, at, b" at ", place as u64),
         _ => at,
     }

@@ -1,5 +1,6 @@
 // The line before the slots, and the line after them.
 ghost use mathlib.Core.Path.{_≡_};
+ghost use Prim.Native.Nat.{_+_, _≤_};
 ghost use lib.ListN.{length};
 ghost use Rattle.text.specs.Written.{written};
 ghost use Rattle.admission.specs.Answer.{toldAdmission};

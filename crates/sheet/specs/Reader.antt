@@ -55,9 +55,9 @@ unfoldable pub pushedOf : JobList → Job → JobList
 pushedOf l j =
     record { jobs = cond (ltb (l .count) countMost) (set (l .jobs) (l .count) j) (l .jobs); count = l .count + 1 }
 
--- an ended field: its value in its place, and the next field; after k the job is whole
-abbrev pub withSheet : Reader → ℕ → Job → Sheet → Reader
-withSheet r field job sheet = record { field = field; digits = 0; value = 0; job = job; sheet = sheet }
+-- a field of which nothing is read
+abbrev pub withSheet : ℕ → Job → Sheet → Reader
+withSheet field job sheet = record { field = field; digits = 0; value = 0; job = job; sheet = sheet }
 
 abbrev pub sheetOf : Setting → ℕ → JobList → Sheet
 sheetOf s slots l = record { setting = s; slots = slots; list = l }
@@ -65,20 +65,28 @@ sheetOf s slots l = record { setting = s; slots = slots; list = l }
 abbrev pub jobOf : ℕ → ℕ → ℕ → ℕ → Job
 jobOf c t m k = record { c = c; t = t; m = m; k = k }
 
+-- an ended field: its value in its place, and the next field; after k the job is whole
+unfoldable pub jobStoredOf : Reader → Reader
+jobStoredOf r =
+    let s = r .sheet in
+    let j = r .job in
+    let x = r .value in
+    let next = r .field + 1 in
+    cond (eqb (r .field) 3) (withSheet next (jobOf x (j .t) (j .m) (j .k)) s)
+    (cond (eqb (r .field) 4) (withSheet next (jobOf (j .c) x (j .m) (j .k)) s)
+    (cond (eqb (r .field) 5) (withSheet next (jobOf (j .c) (j .t) x (j .k)) s)
+    (let whole = jobOf (j .c) (j .t) (j .m) x in
+    withSheet 3 whole (sheetOf (s .setting) (s .slots) (pushedOf (s .list) whole)))))
+
 unfoldable pub storedOf : Reader → Reader
 storedOf r =
     let s = r .sheet in
     let j = r .job in
     let x = r .value in
     let next = r .field + 1 in
-    cond (eqb (r .field) 0) (withSheet r next j (sheetOf (record { order = x; model = s .setting .model }) (s .slots) (s .list)))
-    (cond (eqb (r .field) 1) (withSheet r next j (sheetOf (record { order = s .setting .order; model = x }) (s .slots) (s .list)))
-    (cond (eqb (r .field) 2) (withSheet r next j (sheetOf (s .setting) x (s .list)))
-    (cond (eqb (r .field) 3) (withSheet r next (jobOf x (j .t) (j .m) (j .k)) s)
-    (cond (eqb (r .field) 4) (withSheet r next (jobOf (j .c) x (j .m) (j .k)) s)
-    (cond (eqb (r .field) 5) (withSheet r next (jobOf (j .c) (j .t) x (j .k)) s)
-    (let whole = jobOf (j .c) (j .t) (j .m) x in
-    withSheet r 3 whole (sheetOf (s .setting) (s .slots) (pushedOf (s .list) whole))))))))
+    cond (eqb (r .field) 0) (withSheet next j (sheetOf (record { order = x; model = s .setting .model }) (s .slots) (s .list)))
+    (cond (eqb (r .field) 1) (withSheet next j (sheetOf (record { order = s .setting .order; model = x }) (s .slots) (s .list)))
+    (cond (eqb (r .field) 2) (withSheet next j (sheetOf (s .setting) x (s .list))) (jobStoredOf r)))
 
 unfoldable pub advancedOf : Reader → ℕ → Reader
 advancedOf r b =

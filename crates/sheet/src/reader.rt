@@ -3,7 +3,7 @@
 ghost use mathlib.Core.Path.{_≡_};
 ghost use mathlib.Core.Bool.{true};
 ghost use Prim.Native.Nat.{_≤_, _<_};
-ghost use Rattle.sheet.specs.Reader.{SoundReader, startReader, letterFits, digitFits, ownByte, endByte, fitsOf, valueAfter, pushedOf, storedOf, advancedOf, betweenLines};
+ghost use Rattle.sheet.specs.Reader.{SoundReader, startReader, letterFits, digitFits, ownByte, endByte, fitsOf, valueAfter, pushedOf, withSheet, jobStoredOf, storedOf, advancedOf, betweenLines};
 use crate::reading::Sheet;
 use job::Job;
 use job::JobList;
@@ -60,35 +60,76 @@ fn pushed(list: JobList, job: Job) -> JobList
     next
 }
 
-// What an ended field leaves: its value in its place, and the next field.
+// The same reader at a field of which nothing is read.
+fn opened(reader: Reader, field: u32) -> Reader
+    ensures { λ r. ⌜ r ≡ withSheet field (reader .job) (reader .sheet) ⌝ }
+{
+    let mut next = reader;
+    next.field = field;
+    next.digits = 0;
+    next.value = 0;
+    next
+}
+
+// What an ended field of a job leaves: its value in its place, and the next field. After k the job
+// is whole.
+fn job_stored(reader: Reader) -> Reader
+    requires { ⌜ reader .sheet .list .count < 18446744073709551615 ⌝ }
+    requires { ⌜ reader .field ≤ 6 ⌝ }
+    ensures { λ r. ⌜ r ≡ jobStoredOf reader ⌝ }
+{
+    let value = reader.value;
+    let field = reader.field;
+    let mut next = opened(reader, field + 1);
+    match field {
+        3 => {
+            next.job.c = value;
+            next
+        }
+        4 => {
+            next.job.t = value;
+            next
+        }
+        5 => {
+            next.job.m = value;
+            next
+        }
+        _ => {
+            next.field = 3;
+            next.job.k = value;
+            let job = next.job;
+            let mut sheet = next.sheet;
+            sheet.list = pushed(sheet.list, job);
+            next.sheet = sheet;
+            next
+        }
+    }
+}
+
+// What an ended field leaves.
 fn stored(reader: Reader) -> Reader
     requires { ⌜ reader .sheet .list .count < 18446744073709551615 ⌝ }
     requires { ⌜ reader .field ≤ 6 ⌝ }
     ensures { λ r. ⌜ r ≡ storedOf reader ⌝ }
 {
     let value = reader.value;
-    let mut next = reader;
-    next.field = reader.field + 1;
-    next.digits = 0;
-    next.value = 0;
     let field = reader.field;
+    let mut next = opened(reader, field + 1);
     match field {
-        0 => next.sheet.setting.order = value,
-        1 => next.sheet.setting.model = value,
-        2 => next.sheet.slots = value,
-        3 => next.job.c = value,
-        4 => next.job.t = value,
-        5 => next.job.m = value,
-        _ => {
-            next.field = 3;
-            next.job.k = value;
-            let list = next.sheet.list;
-            let job = next.job;
-            let more = pushed(list, job);
-            next.sheet.list = more;
+        0 => {
+            next.sheet.setting.order = value;
+            next
         }
+        1 => {
+            next.sheet.setting.model = value;
+            next
+        }
+        2 => {
+            next.sheet.slots = value;
+            next
+        }
+        _ => job_stored(reader),
     }
-    next
 }
 
 impl Reader {

@@ -1,133 +1,187 @@
--- Numbers in decimal: how many digits there are, the loop that counts them, and one digit more.
-use mathlib.Core.Path.{_≡_, refl, sym, _∙_, ap}
-use mathlib.Core.List.{List, [], _∷_, _++_}
-use Prim.Native.Nat.{ℕ, zero, suc, _+_, _*_, _-_, _/_, _%_, _^_, _≤_, _<_}
+-- What a number's decimal is: one digit, or the decimal of what stands before the last digit and that digit; how long it is; and that it says its number.
+use mathlib.Core.Path.{_≡_, refl, sym, _∙_, ap, subst}
+use mathlib.Core.Bool.{Bool, true, false}
+use mathlib.Core.List.{List, [], _∷_, _++_, head-eq-of-cons-eq, tail-eq-of-cons-eq}
+use Prim.Native.Nat.{ℕ, zero, suc, _+_, _-_, _*_, _^_, _/_, _%_, _≤_, _<_}
 use native.Mathlib.Nat.{pow-suc, mod-eq-of-lt}
 use native.Mathlib.Numerals.{add-one}
 use native.Mathlib.Decide.{decLt}
 use native.Mathlib.Omega.{arith}
-use lib.Arith.{digits-div, digits-mod}
-use lib.ListN.{length, set, length-append}
+use lib.Dec.{eqb}
+use lib.ListN.{length, getD, length-append, List·getD-append}
 use borrow.Author.Tests.{eq-eqb, ne-eqb}
 use Rattle.text.specs.Decimal.{digitsOf, countIn, decimalOf}
-use Rattle.text.specs.Written.{written}
-use Rattle.text.proofs.WrittenLaws.{written-last}
 
-pub digits-length : (n x : ℕ) → length (digitsOf n x) ≡ n
-unfolding digitsOf
-digits-length zero x = refl
-digits-length (suc n) x = length-append (digitsOf n (x / 10)) _ ∙ ap (_+ 1) (digits-length n (x / 10)) ∙ add-one n
+-- every number is a digit, or a positive number times ten plus a digit
+pub by-digits :
+    (P : ℕ → Type 0) → ((d : ℕ) → d < 10 → P d) → ((x d : ℕ) → 0 < x → d < 10 → P x → P (x * 10 + d)) → (x : ℕ) → P x
+by-digits P one more x = within x x (omega arith)
+  where
+    within : (n y : ℕ) → y ≤ n → P y
+    within zero y h = one y (omega arith)
+    within (suc n) y h = go (within n) (decLt y 10)
+      where
+        go : ((z : ℕ) → z ≤ n → P z) → Dec (y < 10) → P y
+        go before (yes small) = one y small
+        go before (no big) =
+            let same : y / 10 * 10 + y % 10 ≡ y = omega arith in
+            subst P same (more (y / 10) (y % 10) (omega arith) (omega arith) (before (y / 10) (omega arith)))
 
--- the digits with the last one apart
-digits-last : (n x : ℕ) → digitsOf (n + 1) x ≡ digitsOf n (x / 10) ++ ((48 + x % 10) ∷ [])
-unfolding digitsOf
-digits-last n x = ap (λ (k : ℕ). digitsOf k x) (add-one n)
-
--- the last digit that is left to be written, stored before the others are
-pub digit-written :
-    (b : List ℕ) (at left x : ℕ) → 0 < left → at + left ≤ length b
-    → written (set b (at + (left - 1)) (48 + x % 10)) at (digitsOf (left - 1) (x / 10)) ≡ written b at (digitsOf left x)
-digit-written b at left x some room =
-    let n = left - 1 in
-    let rest = digitsOf n (x / 10) in
-    let long : length rest ≡ n = digits-length n (x / 10) in
-    let all : n + 1 ≡ left = omega arith in
-    ap (λ (k : ℕ). written (set b (at + k) (48 + x % 10)) at rest) (sym long)
-    ∙ written-last b at rest (48 + x % 10) (omega arith)
-    ∙ ap (written b at) (sym (digits-last n x) ∙ ap (λ (k : ℕ). digitsOf k x) all)
-
--- the count of a number of one digit, and of one of more
-count-one : (n x : ℕ) → x < 10 → countIn n x ≡ 1
+-- how many digits
+pub count-one : (n x : ℕ) → x < 10 → countIn n x ≡ 1
 unfolding countIn
 count-one zero x h = refl
-count-one (suc n) x h = rw (eq-eqb (x / 10) 0 (omega arith), countIn)
+count-one (suc n) x h = rw (countIn, eq-eqb (x / 10) 0 (omega arith))
 
-count-more : (n x : ℕ) → (x < 10 → ⊥) → countIn (suc n) x ≡ countIn n (x / 10) + 1
+pub count-more : (n x : ℕ) → 10 ≤ x → countIn (suc n) x ≡ countIn n (x / 10) + 1
 unfolding countIn
-count-more n x h = rw (ne-eqb (x / 10) 0 (omega arith), countIn)
+count-more n x h = rw (countIn, ne-eqb (x / 10) 0 (omega arith))
 
-count-most : (n x : ℕ) → countIn n x ≤ n + 1
-unfolding countIn
-count-most zero x = omega arith
-count-most (suc n) x =
-    elim (decLt x 10) [
-      | yes h ↦ omega (arith, count-one (suc n) x h)
-      | no h ↦ omega (arith, count-more n x h, count-most n (x / 10))
-    ]
-
-tenth-below : (n x : ℕ) → x < 10 ^ suc n → x / 10 < 10 ^ n
-tenth-below n x h = let p : 10 ^ suc n ≡ 10 ^ n * 10 = pow-suc 10 n in omega arith
-
--- a count up to one digit more is the same where the number has not so many
-count-enough : (n x : ℕ) → x < 10 ^ suc n → countIn (suc n) x ≡ countIn n x
-count-enough zero x h = count-one 1 x h ∙ sym (count-one 0 x h)
-count-enough (suc n) x h =
-    elim (decLt x 10) [
-      | yes l ↦ count-one (suc (suc n)) x l ∙ sym (count-one (suc n) x l)
-      | no l ↦
-          count-more (suc n) x l
-          ∙ ap (_+ 1) (count-enough n (x / 10) (tenth-below (suc n) x h))
-          ∙ sym (count-more n x l)
-    ]
-
-pub decimal-length : (x : ℕ) → length (decimalOf x) ≡ countIn 19 x
-unfolding decimalOf
-decimal-length x = digits-length (countIn 19 x) x
-
--- as many digits as there are
-pub decimal-digits : (x n : ℕ) → n ≡ length (decimalOf x) → digitsOf n x ≡ decimalOf x
-unfolding decimalOf
-decimal-digits x n all = ap (λ (k : ℕ). digitsOf k x) (all ∙ decimal-length x)
-
--- 'a number of 64 bits has at most 20 digits', and one below 100 at most 2
-pub decimal-most : (x : ℕ) → length (decimalOf x) ≤ 20
-decimal-most x = omega (arith, decimal-length x, count-most 19 x)
-
-pub decimal-two : (x : ℕ) → x < 100 → length (decimalOf x) ≤ 2
-decimal-two x h =
-    elim (decLt x 10) [
-      | yes l ↦ omega (arith, decimal-length x, count-one 19 x l)
-      | no l ↦ omega (arith, decimal-length x, count-more 18 x l, count-one 18 (x / 10) (omega arith))
-    ]
-
--- one digit is itself, and one digit more stands after the others
-pub decimal-digit : (d : ℕ) → d < 10 → decimalOf d ≡ (48 + d) ∷ []
-unfolding decimalOf digitsOf
-decimal-digit d h =
-    ap (λ (n : ℕ). digitsOf n d) (count-one 19 d h) ∙ ap (λ (r : ℕ). (48 + r) ∷ []) (mod-eq-of-lt h)
-
-pub decimal-more : (x d : ℕ) → 0 < x → x < 10 ^ 18 → d < 10 → decimalOf (x * 10 + d) ≡ decimalOf x ++ ((48 + d) ∷ [])
-unfolding decimalOf
-decimal-more x d some few h =
-    let y = x * 10 + d in
-    let count : countIn 19 y ≡ countIn 19 x + 1 =
-    count-more 18 y (omega arith) ∙ ap (λ (k : ℕ). countIn 18 k + 1) (digits-div x h)
-    ∙ ap (_+ 1) (sym (count-enough 18 x (omega arith))) in
-    ap (λ (n : ℕ). digitsOf n y) count ∙ digits-last (countIn 19 x) y ∙ rw (digits-div x h, digits-mod x h)
-
--- the loop that counts: `rest` is the number without the digits already counted, `count` that many and one
-pub record Counting (x rest count : ℕ) : Type 0 where
-  pub few : count ≤ 20
-  pub below : rest < 10 ^ suc (20 - count)
-  pub counted : countIn 19 x + 1 ≡ countIn (20 - count) rest + count
-
-pub counting-starts : (x : ℕ) → x < 2 ^ 64 → Counting x x 1
-counting-starts x h = record { few = omega arith; below = omega arith; counted = refl }
-
-pub counting-goes : (x rest count : ℕ) → Counting x rest count → 10 ≤ rest → Counting x (rest / 10) (count + 1)
-counting-goes x rest count c more = go (20 - count) (c .below) (c .counted) refl
+-- a longer count is the same, where the shorter one is long enough
+count-enough : (n x : ℕ) → x < 10 ^ suc n → countIn n x ≡ countIn (suc n) x
+count-enough zero x h = count-one 0 x h ∙ sym (count-one 1 x h)
+count-enough (suc n) x h = go (decLt x 10) (count-enough n (x / 10) (omega (arith, pow-suc 10 (suc n))))
   where
-    go :
-        (n : ℕ) → rest < 10 ^ suc n → countIn 19 x + 1 ≡ countIn n rest + count → 20 - count ≡ n
-        → Counting x (rest / 10) (count + 1)
-    go zero below counted e = absurd (omega arith)
-    go (suc n) below counted e =
-        let left : 20 - (count + 1) ≡ n = omega arith in
-        record {
-          few = omega arith;
-          below = rw left (tenth-below (suc n) rest below);
-          counted = rw left (omega (arith, count-more n rest (omega arith)));
-        }
+    go : Dec (x < 10) → countIn n (x / 10) ≡ countIn (suc n) (x / 10) → countIn (suc n) x ≡ countIn (suc (suc n)) x
+    go (yes small) e = count-one (suc n) x small ∙ sym (count-one (suc (suc n)) x small)
+    go (no big) e = count-more n x (omega arith) ∙ ap (_+ 1) e ∙ sym (count-more (suc n) x (omega arith))
 
-pub counting-done : (x rest count : ℕ) → Counting x rest count → rest < 10 → count ≡ length (decimalOf x)
-counting-done x rest count c one = omega (arith, c .counted, count-one (20 - count) rest one, decimal-length x)
+count-most : (k n x : ℕ) → x < 10 ^ suc k → countIn n x ≤ suc k
+unfolding countIn
+count-most k zero x h = omega arith
+count-most zero (suc n) x h = omega (arith, count-one (suc n) x h)
+count-most (suc k) (suc n) x h = go (decLt x 10) (count-most k n (x / 10) (omega (arith, pow-suc 10 (suc k))))
+  where
+    go : Dec (x < 10) → countIn n (x / 10) ≤ suc k → countIn (suc n) x ≤ suc (suc k)
+    go (yes small) most = omega (arith, count-one (suc n) x small)
+    go (no big) most = omega (arith, count-more n x (omega arith))
+
+count-some : (n x : ℕ) → 0 < countIn n x
+unfolding countIn
+count-some zero x = omega arith
+count-some (suc n) x = go (decLt x 10)
+  where
+    go : Dec (x < 10) → 0 < countIn (suc n) x
+    go (yes small) = omega (arith, count-one (suc n) x small)
+    go (no big) = omega (arith, count-more n x (omega arith))
+
+count-long : (n x : ℕ) → x < 10 ^ suc n → x < 10 ^ countIn n x
+unfolding countIn
+count-long zero x h = h
+count-long (suc n) x h = go (decLt x 10) (count-long n (x / 10) (omega (arith, pow-suc 10 (suc n))))
+  where
+    go : Dec (x < 10) → x / 10 < 10 ^ countIn n (x / 10) → x < 10 ^ countIn (suc n) x
+    go (yes small) long = rw (count-one (suc n) x small) small
+    go (no big) long = rw (count-more n x (omega arith), add-one) (omega (arith, pow-suc 10 (countIn n (x / 10))))
+
+-- the digits
+pub length-digits : (n x : ℕ) → length (digitsOf n x) ≡ n
+unfolding digitsOf
+length-digits zero x = refl
+length-digits (suc n) x =
+    length-append (digitsOf n (x / 10)) ((48 + x % 10) ∷ []) ∙ omega (arith, length-digits n (x / 10))
+
+pub data Digits : List ℕ → Type 0 where
+  none : Digits []
+  more : {b : ℕ} {bytes : List ℕ} → 48 ≤ b → b ≤ 57 → Digits bytes → Digits (b ∷ bytes)
+
+one-more-digit : {b : ℕ} {bytes : List ℕ} → Digits bytes → 48 ≤ b → b ≤ 57 → Digits (bytes ++ (b ∷ []))
+one-more-digit none low high = more low high none
+one-more-digit (more l h digits) low high = more l h (one-more-digit digits low high)
+
+all-digits : (n x : ℕ) → Digits (digitsOf n x)
+unfolding digitsOf
+all-digits zero x = none
+all-digits (suc n) x = one-more-digit (all-digits n (x / 10)) (omega arith) (omega arith)
+
+-- the number that digits say, after v
+pub saidFrom : ℕ → List ℕ → ℕ
+saidFrom v [] = v
+saidFrom v (b ∷ bytes) = saidFrom (v * 10 + (b - 48)) bytes
+
+said-more : (v : ℕ) (bytes : List ℕ) (b : ℕ) → saidFrom v (bytes ++ (b ∷ [])) ≡ saidFrom v bytes * 10 + (b - 48)
+unfolding saidFrom
+said-more v [] b = refl
+said-more v (a ∷ bytes) b = said-more (v * 10 + (a - 48)) bytes b
+
+digits-say : (n x : ℕ) → x < 10 ^ n → saidFrom 0 (digitsOf n x) ≡ x
+unfolding digitsOf saidFrom
+digits-say zero x h = omega arith
+digits-say (suc n) x h =
+    said-more 0 (digitsOf n (x / 10)) (48 + x % 10) ∙ omega (arith, digits-say n (x / 10) (omega (arith, pow-suc 10 n)))
+
+-- the decimal
+pub decimal-digits : (x : ℕ) → Digits (decimalOf x)
+unfolding decimalOf
+decimal-digits x = all-digits (countIn 19 x) x
+
+pub decimal-count : (x : ℕ) → length (decimalOf x) ≡ countIn 19 x
+unfolding decimalOf
+decimal-count x = length-digits (countIn 19 x) x
+
+pub decimal-some : (x : ℕ) → 0 < length (decimalOf x)
+unfolding decimalOf
+decimal-some x = omega (arith, length-digits (countIn 19 x) x, count-some 19 x)
+
+pub decimal-length : (k x : ℕ) → x < 10 ^ suc k → length (decimalOf x) ≤ suc k
+unfolding decimalOf
+decimal-length k x h = omega (arith, length-digits (countIn 19 x) x, count-most k 19 x h)
+
+pub decimal-one : (d : ℕ) → d < 10 → decimalOf d ≡ (48 + d) ∷ []
+unfolding decimalOf digitsOf
+decimal-one d h = rw (count-one 19 d h) (ap (λ (e : ℕ). (48 + e) ∷ []) (mod-eq-of-lt h))
+
+module _ (x : ℕ) (fits : x < 10 ^ 20) where
+  -- the number is below the power of ten of its length
+  pub decimal-long : x < 10 ^ length (decimalOf x)
+  unfolding decimalOf
+  decimal-long = rw (length-digits (countIn 19 x) x) (count-long 19 x fits)
+
+  pub decimal-says : saidFrom 0 (decimalOf x) ≡ x
+  unfolding decimalOf
+  decimal-says = digits-say (countIn 19 x) x (count-long 19 x fits)
+
+pub decimal-one-to-one : (x y : ℕ) → x < 10 ^ 20 → y < 10 ^ 20 → decimalOf x ≡ decimalOf y → x ≡ y
+decimal-one-to-one x y hx hy e = sym (decimal-says x hx) ∙ ap (saidFrom 0) e ∙ decimal-says y hy
+
+module _ (x d : ℕ) (some : 0 < x) (digit : d < 10) (fits : x * 10 + d < 10 ^ 20) where
+  pub decimal-more : decimalOf (x * 10 + d) ≡ decimalOf x ++ ((48 + d) ∷ [])
+  unfolding decimalOf digitsOf
+  decimal-more =
+      let front : (x * 10 + d) / 10 ≡ x = omega arith in
+      let last : (x * 10 + d) % 10 ≡ d = omega arith in
+      let count : countIn 19 (x * 10 + d) ≡ suc (countIn 19 x) =
+      count-more 18 (x * 10 + d) (omega arith)
+      ∙ ap (λ (y : ℕ). countIn 18 y + 1) front
+      ∙ ap (_+ 1) (count-enough 18 x (omega arith))
+      ∙ add-one (countIn 19 x) in
+      rw (count, digitsOf, front, last)
+
+-- no leading zero
+pub first-digit : (x : ℕ) → 0 < x → x < 10 ^ 20 → 48 < getD (decimalOf x) 0 0
+first-digit x =
+    by-digits (λ y. 0 < y → y < 10 ^ 20 → 48 < getD (decimalOf y) 0 0)
+    (λ d h some fits. rw (decimal-one d h) (omega arith))
+    (λ y d low h first some fits.
+    rw (decimal-more y d low h fits, List·getD-append (decimalOf y) ((48 + d) ∷ []) 0 0 (decimal-some y))
+    (first low (omega arith)))
+    x
+
+-- a number is read off the front of a text, up to a byte that is no digit
+digits-cut :
+    {s t : List ℕ} → Digits s → Digits t → {a b : ℕ} {p q : List ℕ} → a < 48 → b < 48 → s ++ (a ∷ p) ≡ t ++ (b ∷ q)
+    → (s ≡ t) × (a ∷ p ≡ b ∷ q)
+digits-cut none none ha hb e = (refl, e)
+digits-cut none (more low high t) ha hb e = absurd (omega (arith, head-eq-of-cons-eq e))
+digits-cut (more low high s) none ha hb e = absurd (omega (arith, head-eq-of-cons-eq e))
+digits-cut (more low high s) (more low′ high′ t) ha hb e =
+    let rest = digits-cut s t ha hb (tail-eq-of-cons-eq e) in
+    let head = head-eq-of-cons-eq e in
+    (cc, rest .1)
+
+pub decimal-cut :
+    (x y : ℕ) {a b : ℕ} {p q : List ℕ} → x < 10 ^ 20 → y < 10 ^ 20 → a < 48 → b < 48
+    → decimalOf x ++ (a ∷ p) ≡ decimalOf y ++ (b ∷ q) → (x ≡ y) × (a ∷ p ≡ b ∷ q)
+decimal-cut x y hx hy ha hb e =
+    let cut = digits-cut (decimal-digits x) (decimal-digits y) ha hb e in
+    (decimal-one-to-one x y hx hy (cut .0), cut .1)

@@ -1,4 +1,5 @@
 -- Laws beside the functions' own proofs.
 pub mod WrittenLaws
-pub mod DecimalLaws
 pub mod WrittenAt
+pub mod DecimalLaws
+pub mod PrintLaws

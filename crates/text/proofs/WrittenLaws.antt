@@ -1,8 +1,8 @@
 -- A text written into a buffer: its length, two texts one after the other, and a text byte by byte, from the front and from the back.
-use mathlib.Core.Path.{_≡_, refl, sym, _∙_, ap}
-use mathlib.Core.List.{List, [], _∷_, _++_, append-assoc, append-nil}
+use mathlib.Core.Path.{_≡_, sym, _∙_, ap, subst}
+use mathlib.Core.List.{List, [], _∷_, _++_, append-assoc}
 use Prim.Native.Nat.{ℕ, suc, _+_, _≤_, _<_}
-use native.Mathlib.Nat.{add-zero, add-assoc, add-suc}
+use native.Mathlib.Nat.{zero-add, add-zero, add-assoc, add-suc}
 use native.Mathlib.Numerals.{add-one}
 use native.Mathlib.Omega.{arith}
 use lib.ListN.{length, getD, take, drop, set, length-append, length-drop, length-set, take-append-drop}
@@ -42,10 +42,21 @@ pub ends :
     → Ends b₀ at x b r
 ends b₀ at x e room = record { place = e .0; bytes = e .1; room = room }
 
+pub ends-length : {b₀ x b : List ℕ} {at r : ℕ} → Ends b₀ at x b r → length b ≡ length b₀
+ends-length {b₀} {x} {b} {at} {r} e = ap length (e .bytes) ∙ written-length b₀ at x (omega arith)
+
+-- an equal text
+pub ends-as : {b₀ x y b : List ℕ} {at r : ℕ} → x ≡ y → Ends b₀ at x b r → Ends b₀ at y b r
+ends-as {b₀} {b = b} {at = at} {r = r} same e = subst (λ (l : List ℕ). Ends b₀ at l b r) same e
+
+-- nothing was written
+pub ends-at-once : (b : List ℕ) (at : ℕ) → at ≤ length b → Ends b at [] b at
+ends-at-once b at room = record { place = sym (add-zero at); bytes = sym (written-none b at); room = room }
+
 -- one writer after another
 pub followed : {b₀ x b y b′ : List ℕ} {at r r′ : ℕ} → Ends b₀ at x b r → Ends b r y b′ r′ → Ends b₀ at (x ++ y) b′ r′
 followed {b₀} {x} {b} {y} {b′} {at} {r} {r′} first second =
-    let same : length b ≡ length b₀ = ap length (first .bytes) ∙ written-length b₀ at x (omega arith) in
+    let same : length b ≡ length b₀ = ends-length first in
     let place : r′ ≡ at + length x + length y = omega arith in
     record {
       place = omega (arith, length-append x y);
@@ -56,6 +67,10 @@ followed {b₀} {x} {b} {y} {b′} {at} {r} {r′} first second =
           ∙ written-twice b₀ at x y (omega arith);
       room = omega arith;
     }
+
+-- a text from the buffer's start on
+pub from-start : {b₀ x b : List ℕ} {r : ℕ} → Ends b₀ 0 x b r → (r ≡ length x) × (b ≡ written b₀ 0 x)
+from-start {b₀} {x} e = (e .place ∙ zero-add (length x), e .bytes)
 
 -- a byte stored is a text of one byte
 stored : (b : List ℕ) (at v : ℕ) → at < length b → set b at v ≡ written b at (v ∷ [])

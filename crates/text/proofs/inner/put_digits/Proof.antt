@@ -6,11 +6,9 @@ use lib.ListN.{length, length-set}
 use Rattle.text.specs.Decimal.{digitsOf}
 use Rattle.text.specs.Written.{written}
 use Rattle.text.proofs.WrittenLaws.{written-none}
-use Rattle.text.proofs.DecimalLaws.{digit-written}
+use Rattle.text.proofs.PrintLaws.{digit-written}
 use Rattle.text.proofs.inner.put_digits.Statement.{statement}
 use Rattle.text.proofs.inner.put_digits.Tie as tie
-use Rattle.text.proofs.inner.put_digits.Reads as reads
-use Rattle.text.proofs.inner.put_digits.Lts as lts
 
 abbrev Inv-loop : tie.InvT-loop
 Inv-loop buf₀ at count x rest₀ left₀ buf rest left =
@@ -19,35 +17,27 @@ Inv-loop buf₀ at count x rest₀ left₀ buf rest left =
 abbrev μ-loop : tie.MeasureT-loop
 μ-loop buf₀ at count x rest₀ left₀ buf rest left = left
 
--- src/inner.rt:42:5
 loop-holds : tie.Need-loop-holds Inv-loop μ-loop
 loop-holds c = (omega arith, refl, refl)
 
--- src/inner.rt:43:9
 sub-left : tie.Need-sub-left Inv-loop μ-loop
 sub-left c = omega arith
 
--- src/inner.rt:44:32
 cast-buf : tie.Need-cast-buf Inv-loop μ-loop
 cast-buf c = omega arith
 
--- src/inner.rt:44:26
 add-buf : tie.Need-add-buf Inv-loop μ-loop
 add-buf c = omega arith
 
--- src/inner.rt:44:13
 add-buf-2 : tie.Need-add-buf-2 Inv-loop μ-loop
 add-buf-2 c = omega arith
 
--- src/inner.rt:44:9
 slice-write-buf : tie.Need-slice-write-buf Inv-loop μ-loop
 slice-write-buf c = omega arith
 
--- src/inner.rt:42:5
 loop-less : tie.Need-loop-less Inv-loop μ-loop
 loop-less c = omega arith
 
--- src/inner.rt:42:5
 loop-again : tie.Need-loop-again Inv-loop μ-loop
 loop-again c =
     let a = c .before .before .args in
@@ -57,11 +47,9 @@ loop-again c =
       digit-written (l .buf) (a .at) (l .left) (l .rest) (omega arith) (omega arith) ∙ l .inv .2,
     )
 
--- src/inner.rt:36:1
 same-length : tie.Need-same-length Inv-loop μ-loop
 same-length c = omega arith
 
--- src/inner.rt:36:1
 returns : tie.Need-returns Inv-loop μ-loop
 unfolding digitsOf
 returns c =

@@ -9,8 +9,6 @@ use Rattle.text.specs.Written.{written}
 use Rattle.text.proofs.WrittenLaws.{written-none, written-next}
 use Rattle.text.proofs.inner.put_text.Statement.{statement}
 use Rattle.text.proofs.inner.put_text.Tie as tie
-use Rattle.text.proofs.inner.put_text.Reads as reads
-use Rattle.text.proofs.inner.put_text.Lts as lts
 
 abbrev Inv-loop : tie.InvT-loop
 Inv-loop buf₀ at text i₀ buf i = (i ≤ length text) × (buf ≡ written buf₀ at (take i text)) × (length buf ≡ length buf₀)
@@ -18,31 +16,24 @@ Inv-loop buf₀ at text i₀ buf i = (i ≤ length text) × (buf ≡ written buf
 abbrev μ-loop : tie.MeasureT-loop
 μ-loop buf₀ at text i₀ buf i = length text - i
 
--- src/inner.rt:15:5
 loop-holds : tie.Need-loop-holds Inv-loop μ-loop
 loop-holds c = (omega arith, sym (written-none (c .args .buf .now) (c .args .at)), refl)
 
--- src/inner.rt:16:23
 shared-slice-read-buf : tie.Need-shared-slice-read-buf Inv-loop μ-loop
 shared-slice-read-buf c = omega arith
 
--- src/inner.rt:16:13
 add-buf : tie.Need-add-buf Inv-loop μ-loop
 add-buf c = omega arith
 
--- src/inner.rt:16:9
 slice-write-buf : tie.Need-slice-write-buf Inv-loop μ-loop
 slice-write-buf c = omega arith
 
--- src/inner.rt:17:9
 add-i : tie.Need-add-i Inv-loop μ-loop
 add-i c = omega arith
 
--- src/inner.rt:15:5
 loop-less : tie.Need-loop-less Inv-loop μ-loop
 loop-less c = omega arith
 
--- src/inner.rt:15:5
 loop-again : tie.Need-loop-again Inv-loop μ-loop
 loop-again c =
     let a = c .before .before .before .args in
@@ -54,15 +45,12 @@ loop-again c =
       length-set (l .buf) (a .at + l .i) v ∙ l .inv .2,
     )
 
--- src/inner.rt:19:5
 add-result : tie.Need-add-result Inv-loop μ-loop
 add-result c = omega arith
 
--- src/inner.rt:9:1
 same-length : tie.Need-same-length Inv-loop μ-loop
 same-length c = omega arith
 
--- src/inner.rt:9:1
 returns : tie.Need-returns Inv-loop μ-loop
 returns c =
     let a = c .before .before .args in

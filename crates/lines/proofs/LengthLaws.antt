@@ -1,0 +1,98 @@
+-- How long the parts of a line are at most, and that every line fits the buffer of 192 bytes.
+use mathlib.Core.Path.{refl}
+use mathlib.Core.Bool.{Bool, true, false, cond, _&&_}
+use mathlib.Core.List.{[]}
+use Prim.Native.Nat.{ℕ, _≤_}
+use native.Mathlib.Omega.{arith}
+use lib.Dec.{leb, eqb}
+use lib.ListN.{length, getD, length-append}
+use Rattle.job.specs.Told.{Told}
+use Rattle.run.specs.declared.answer.Choice.{Choice}
+use Rattle.run.specs.declared.answer.Choice.the-variants.{Given, Idle}
+use Rattle.run.specs.declared.answer.Slot.{Slot}
+use Rattle.run.specs.declared.state.Totals.{Totals}
+use Rattle.admission.specs.Answer.{cycleReturned, loadReturned}
+use Rattle.text.specs.Ascii.{ascii}
+use Rattle.text.specs.Decimal.{decimalOf}
+use Rattle.text.proofs.PrintLaws.{decimal-most}
+use Rattle.lines.specs.Parts.{labelled}
+use Rattle.lines.specs.Slot.{choiceText, setText, slotText}
+use Rattle.lines.specs.Summary.{verdictWord, admissionText, totalsText}
+use Rattle.lines.specs.Refused.{valueText, refusalText}
+use Rattle.lines.proofs.SetLaws.{set-most}
+
+pub choice-most : (choice : Choice) → length (choiceText choice) ≤ 20
+choice-most (Given j) = decimal-most j
+choice-most Idle = omega arith
+
+pub word-most : (number : ℕ) → length (verdictWord number) ≤ 16
+word-most number = go (eqb number 0) (eqb number 8) (eqb number 9)
+  where
+    go :
+        (admitted long over : Bool)
+        → length (cond admitted (ascii " admitted\n") (cond long (ascii " cycle too long\n") (cond over (ascii " over\n") (ascii " not judged\n")))) ≤ 16
+    go true long over = omega arith
+    go false true over = omega arith
+    go false false true = omega arith
+    go false false false = omega arith
+
+pub value-most : (t : Told) → length (valueText t) ≤ 25
+value-most t = go (leb 3 (t .number) && leb (t .number) 6) (eqb (t .number) 13)
+  where
+    value : ℕ
+    value = getD (t .values) 0 0
+
+    go :
+        (of-job of-place : Bool)
+        → length (cond of-job (labelled (ascii " job ") value) (cond of-place (labelled (ascii " at ") value) [])) ≤ 25
+    go true of-place = omega (arith, decimal-most value)
+    go false true = omega (arith, decimal-most value)
+    go false false = omega arith
+
+pub record SlotMost (n : ℕ) (s : Slot) : Type 0 where
+  pub number : length (decimalOf n) ≤ 20
+  pub choice : length (choiceText (s .choice)) ≤ 20
+  pub tags : length (setText (ascii " t") (s .tags) 16) ≤ 54
+  pub shorts : length (setText (ascii " s") (s .shorts) 16) ≤ 54
+
+pub slot-most : (n : ℕ) (s : Slot) → SlotMost n s
+slot-most n s =
+    record {
+      number = decimal-most n;
+      choice = choice-most (s .choice);
+      tags = set-most (ascii " t") (s .tags) refl 16 (omega arith);
+      shorts = set-most (ascii " s") (s .shorts) refl 16 (omega arith);
+    }
+
+pub record TotalsMost (t : Totals) : Type 0 where
+  pub given : length (decimalOf (t .given)) ≤ 20
+  pub idle : length (decimalOf (t .idle)) ≤ 20
+  pub tags : length (decimalOf (t .tags)) ≤ 20
+  pub shorts : length (decimalOf (t .shorts)) ≤ 20
+
+pub totals-most : (t : Totals) → TotalsMost t
+totals-most t =
+    record {
+      given = decimal-most (t .given);
+      idle = decimal-most (t .idle);
+      tags = decimal-most (t .tags);
+      shorts = decimal-most (t .shorts);
+    }
+
+pub slot-fits : (n : ℕ) (s : Slot) → length (slotText n s) ≤ 192
+unfolding slotText
+slot-fits n s = let known = slot-most n s in simp length-append (omega arith)
+
+pub admission-fits : (t : Told) → length (admissionText t) ≤ 192
+unfolding admissionText
+admission-fits t =
+    simp length-append
+    (omega (arith, decimal-most (cycleReturned t), decimal-most (loadReturned t), word-most (t .number)))
+
+pub totals-fits : (t : Totals) → length (totalsText t) ≤ 192
+unfolding totalsText
+totals-fits t = let known = totals-most t in simp length-append (omega arith)
+
+pub refusal-fits : (t : Told) → length (refusalText t) ≤ 192
+unfolding refusalText
+refusal-fits t = simp length-append (omega (arith, decimal-most (t .number), value-most t))

@@ -1,0 +1,5 @@
+-- Laws beside the functions' own proofs.
+pub mod SetLaws
+pub mod RefusedLaws
+pub mod LengthLaws
+pub mod Meaning

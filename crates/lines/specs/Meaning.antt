@@ -1,0 +1,51 @@
+-- What a reader may check of the lines against document 01: the lines that it quotes, and that every line fits the buffer. Each
+-- statement is proved in proofs/, under its name.
+use mathlib.Core.Path.{_≡_}
+use mathlib.Core.List.{[], _∷_}
+use Prim.Native.Nat.{ℕ, _≤_}
+use lib.ListN.{length}
+use Rattle.job.specs.declared.refusal.Refusal.the-variants.{Period, OriginalModel, CycleTooLong, SheetForm}
+use Rattle.job.specs.Told.{Told, row, told}
+use Rattle.run.specs.declared.answer.Choice.the-variants.{Given}
+use Rattle.run.specs.declared.answer.Slot.{Slot}
+use Rattle.run.specs.declared.state.Totals.{Totals}
+use Rattle.text.specs.Ascii.{ascii}
+use Rattle.lines.specs.Slot.{slotText}
+use Rattle.lines.specs.Summary.{admissionText, totalsText}
+use Rattle.lines.specs.Refused.{refusalText}
+
+-- 'slot 1 of case F: "1 0 t1 s1"'
+abbrev pub SlotOneOfF : Type 0
+SlotOneOfF = slotText 1 (record { choice = Given 0; tags = 2; shorts = 2 }) ≡ ascii "1 0 t1 s1\n"
+
+-- the first and the last line of case A, and case I, whose load is above its cycle
+abbrev pub FirstLineOfA : Type 0
+FirstLineOfA = admissionText (row 0 (12 ∷ 7 ∷ [])) ≡ ascii "cycle 12 load 7 admitted\n"
+
+abbrev pub LastLineOfA : Type 0
+LastLineOfA = totalsText (record { given = 4; idle = 2; tags = 0; shorts = 0 }) ≡ ascii "given 4 idle 2 tagged 0 short 0\n"
+
+abbrev pub FirstLineOfI : Type 0
+FirstLineOfI = admissionText (row 9 (25500 ∷ 25501 ∷ [])) ≡ ascii "cycle 25500 load 25501 over\n"
+
+-- 'so 0 and 0 in the last two'
+abbrev pub FirstLineTooLong : Type 0
+FirstLineTooLong = admissionText (told CycleTooLong) ≡ ascii "cycle 0 load 0 cycle too long\n"
+
+abbrev pub FirstLineNotJudged : Type 0
+FirstLineNotJudged = admissionText (told OriginalModel) ≡ ascii "cycle 0 load 0 not judged\n"
+
+-- '" job J" for 3 to 6 or " at P" for 13'
+abbrev pub LineOfRowThree : Type 0
+LineOfRowThree = refusalText (told (Period 2)) ≡ ascii "refused 3 job 2\n"
+
+abbrev pub LineOfRowThirteen : Type 0
+LineOfRowThirteen = refusalText (told (SheetForm 7)) ≡ ascii "refused 13 at 7\n"
+
+-- a buffer of 192 bytes holds any line
+abbrev pub EveryLineFits : Type 0
+EveryLineFits =
+    ((n : ℕ) (s : Slot) → length (slotText n s) ≤ 192)
+    × ((t : Told) → length (admissionText t) ≤ 192)
+    × ((t : Totals) → length (totalsText t) ≤ 192)
+    × ((t : Told) → length (refusalText t) ≤ 192)

@@ -3,6 +3,9 @@ mod answer;
 mod decide;
 pub mod divisor;
 pub mod inner;
+mod lent;
 
 pub use answer::Admission;
 pub use decide::verdict;
+pub use lent::admit;
+pub use lent::admit_first;

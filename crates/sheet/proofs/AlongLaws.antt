@@ -1,6 +1,6 @@
 -- The reader along the bytes, as a loop has it: sound, small enough to go on, and what is told where it stops.
-use mathlib.Core.Path.{_≡_, refl, sym, _∙_, ap, subst}
-use mathlib.Core.Bool.{Bool, true, false, _&&_}
+use mathlib.Core.Path.{_≡_, refl, sym, _∙_, ap}
+use mathlib.Core.Bool.{Bool, true, false}
 use mathlib.Core.List.{List, [], _∷_}
 use Prim.Native.Nat.{ℕ, zero, suc, _+_, _≤_, _<_}
 use native.Mathlib.Numerals.{add-one}
@@ -8,11 +8,11 @@ use native.Mathlib.Omega.{arith}
 use lib.Dec.{eqb}
 use lib.ListN.{length}
 use Rattle.job.specs.Told.{row, passed}
-use Rattle.job.proofs.TestLaws.{both, clash}
+use Rattle.job.proofs.TestLaws.{clash}
 use Rattle.run.proofs.CondLaws.{by-test}
 use Rattle.sheet.specs.declared.reader.Reader.{Reader}
 use Rattle.sheet.specs.Sheet.{bytesMost, sheetTold}
-use Rattle.sheet.specs.Reader.{byteAt, startReader, SoundReader, ownByte, fitsOf, pushedOf, jobStoredOf, storedOf, advancedOf, betweenLines, readerUpto, fitsUpto, placeUpto}
+use Rattle.sheet.specs.Reader.{byteAt, startReader, SoundReader, ownByte, fitsOf, pushedOf, jobStoredOf, storedOf, advancedOf, betweenLines, readerUpto, fitsUpto}
 use Rattle.sheet.specs.Answer.{lastReader, readTold, readSheet}
 use Rattle.sheet.proofs.ByteLaws.{refuted}
 use Rattle.sheet.proofs.HoldsLaws.{holds-sound}
@@ -77,32 +77,35 @@ module _ (bytes : List ℕ) where
           fits = fits-next true fit;
         }
 
-    module _ (short : length bytes ≤ bytesMost) where
-      stopped : Stop bytes (length bytes) n → formFits bytes ≡ false → readTold bytes ≡ row 13 (n ∷ [])
-      stopped stop refused = read-formless bytes short refused ∙ ap (λ (p : ℕ). row 13 (p ∷ [])) (place-is bytes stop)
+    stopped :
+        length bytes ≤ bytesMost → Stop bytes (length bytes) n → formFits bytes ≡ false → readTold bytes ≡ row 13 (n ∷ [])
+    stopped short stop refused =
+        read-formless bytes short refused ∙ ap (λ (place : ℕ). row 13 (place ∷ [])) (place-is bytes stop)
 
-      -- a byte that does not fit is the place that row 13 names
-      pub along-misfit : n < length bytes → fitsOf r (byteAt bytes n) ≡ false → readTold bytes ≡ row 13 (n ∷ [])
-      along-misfit h misfit =
-          let next = fits-next false misfit in
-          stopped (record { high = omega arith; fits = along .fits; stops = λ l. next })
-          (refuted (λ formed. clash next (formed-fits bytes formed (suc n) h)))
+    -- a byte that does not fit is the place that row 13 names
+    pub along-misfit :
+        length bytes ≤ bytesMost → n < length bytes → fitsOf r (byteAt bytes n) ≡ false → readTold bytes ≡ row 13 (n ∷ [])
+    along-misfit short h misfit =
+        let next = fits-next false misfit in
+        stopped short (record { high = omega arith; fits = along .fits; stops = λ l. next })
+        (refuted (λ formed. clash next (formed-fits bytes formed (suc n) h)))
 
-      module _ (all : n ≡ length bytes) where
-        last-is : r ≡ lastReader bytes
-        last-is = along .reader-is ∙ ap (readerUpto bytes) all
+    -- the end of the bytes
+    module _ (all : n ≡ length bytes) where
+      last-is : r ≡ lastReader bytes
+      last-is = along .reader-is ∙ ap (readerUpto bytes) all
 
-        all-fit : fitsUpto bytes (length bytes) ≡ true
-        all-fit = rw all at (along .fits)
+      form-is : formFits bytes ≡ betweenLines r
+      form-is = rw (rw all at (along .fits), ← last-is)
 
-        -- and so is the end of the bytes, where no line has ended
-        pub along-open : betweenLines r ≡ false → readTold bytes ≡ row 13 (n ∷ [])
-        along-open open-line =
-            stopped (record { high = omega arith; fits = along .fits; stops = λ h. absurd (omega arith) })
-            (rw (all-fit, ← last-is) open-line)
+      -- it is the place that row 13 names, where no line has ended
+      pub along-open : length bytes ≤ bytesMost → betweenLines r ≡ false → readTold bytes ≡ row 13 (n ∷ [])
+      along-open short open-line =
+          stopped short (record { high = omega arith; fits = along .fits; stops = λ h. absurd (omega arith) }) (form-is ∙ open-line)
 
-        pub along-formed : betweenLines r ≡ true → readTold bytes ≡ sheetTold (r .sheet)
-        along-formed line = read-formed bytes short (rw (all-fit, ← last-is) line) ∙ ap (λ (q : Reader). sheetTold (q .sheet)) (sym last-is)
+      pub along-formed : length bytes ≤ bytesMost → betweenLines r ≡ true → readTold bytes ≡ sheetTold (r .sheet)
+      along-formed short line =
+          read-formed bytes short (form-is ∙ line) ∙ ap (λ (q : Reader). sheetTold (q .sheet)) (sym last-is)
 
-        pub along-sheet : readTold bytes ≡ passed → r .sheet ≡ readSheet bytes
-        along-sheet e = ap (λ (q : Reader). q .sheet) last-is ∙ passed-sheet bytes e
+      pub along-sheet : readTold bytes ≡ passed → r .sheet ≡ readSheet bytes
+      along-sheet e = ap (λ (q : Reader). q .sheet) last-is ∙ passed-sheet bytes e

@@ -1,18 +1,18 @@
 -- Whatever the reader holds, some sheet goes on from there: the open field is filled and ended, and so are those after it in the line.
-use mathlib.Core.Path.{_≡_, refl, sym, _∙_, ap, subst}
+use mathlib.Core.Path.{_≡_, refl, _∙_}
 use mathlib.Core.Bool.{Bool, true, false, _||_, cond}
 use mathlib.Core.Logic.{_⊎_, inl, inr}
-use mathlib.Core.List.{List, [], _∷_, _++_, append-assoc, append-nil}
+use mathlib.Core.List.{List, [], _∷_, _++_, append-assoc}
 use Prim.Native.Nat.{ℕ, zero, suc, _+_, _-_, _≤_, _<_}
-use native.Mathlib.Decide.{decLt, decLe}
+use native.Mathlib.Decide.{decLt}
 use native.Mathlib.Omega.{arith}
 use lib.Dec.{eqb}
 use borrow.Author.Tests.{eq-eqb, ne-eqb}
 use Rattle.job.specs.declared.record.Job.{Job}
 use Rattle.sheet.specs.declared.reading.Sheet.{Sheet}
 use Rattle.sheet.specs.declared.reader.Reader.{Reader}
-use Rattle.sheet.specs.Form.{IsSheet, Begins}
-use Rattle.sheet.specs.Reader.{letterFits, ownByte, endByte, jobStoredOf, storedOf, advancedOf, betweenLines}
+use Rattle.sheet.specs.Form.{Begins}
+use Rattle.sheet.specs.Reader.{ownByte, endByte, jobStoredOf, storedOf, advancedOf}
 use Rattle.sheet.proofs.ByteLaws.{readerAt, letter-own, number-own, own-fits, own-leaves, end-fits, end-leaves}
 use Rattle.sheet.proofs.HoldsLaws.{Holds, holds-more, holds-sheet}
 

@@ -2,14 +2,14 @@
 use mathlib.Core.Path.{_≡_, refl, sym, _∙_}
 use mathlib.Core.Bool.{Bool, true, false, _&&_, _||_, cond, or-true}
 use mathlib.Core.Logic.{_⊎_, inl, inr}
-use Prim.Native.Nat.{ℕ, zero, suc, _+_, _-_, _*_, _^_, _≤_, _<_}
+use Prim.Native.Nat.{ℕ, _+_, _-_, _*_, _^_, _≤_, _<_}
 use native.Mathlib.Nat.{pow-le-pow-right}
 use native.Mathlib.Decide.{decLt}
 use native.Mathlib.Omega.{arith}
 use lib.Dec.{leb, ltb, eqb}
-use borrow.Author.Tests.{ltb-true, leb-true, eqb-true, lt-ltb, le-ltb, le-leb, lt-leb, eq-eqb, ne-eqb}
+use borrow.Author.Tests.{ltb-true, leb-true, eqb-true, lt-ltb, le-ltb, le-leb, eq-eqb}
 use Rattle.job.specs.declared.record.Job.{Job}
-use Rattle.job.proofs.TestLaws.{both, clash}
+use Rattle.job.proofs.TestLaws.{both}
 use Rattle.run.proofs.CondLaws.{by-test}
 use Rattle.sheet.specs.declared.reading.Sheet.{Sheet}
 use Rattle.sheet.specs.declared.reader.Reader.{Reader}
@@ -96,7 +96,7 @@ module _ (r : Reader) (b : ℕ) where
 end-low : (field : ℕ) → endByte field < 48
 end-low field = by-test (λ (b : ℕ). b < 48) (eqb field 2 || eqb field 6) (λ e. omega arith) (λ e. omega arith)
 
-pub end-not-own : (r : Reader) → 0 < r .digits → ownByte r (endByte (r .field)) ≡ false
+end-not-own : (r : Reader) → 0 < r .digits → ownByte r (endByte (r .field)) ≡ false
 end-not-own r some = refuted (never (decLt (r .field) 2))
   where
     never : Dec (r .field < 2) → ownByte r (endByte (r .field)) ≡ true → ⊥

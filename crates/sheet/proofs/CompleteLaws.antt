@@ -1,14 +1,11 @@
 -- The text of small values is read to its end, and leaves those values in the reader.
-use mathlib.Core.Path.{_≡_, refl, sym, _∙_, ap, subst}
-use mathlib.Core.Bool.{Bool, true, false}
-use mathlib.Core.List.{List, [], _∷_, _++_}
+use mathlib.Core.Path.{_≡_, refl, _∙_, ap, subst}
+use mathlib.Core.List.{List, [], _∷_}
 use mathlib.Core.Logic.{_⊎_, inl, inr}
-use Prim.Native.Nat.{ℕ, zero, suc, _+_, _-_, _*_, _^_, _≤_, _<_}
-use native.Mathlib.Numerals.{add-one}
+use Prim.Native.Nat.{ℕ, zero, suc, _+_, _-_, _*_, _≤_, _<_}
 use native.Mathlib.Omega.{arith}
 use lib.ListN.{length, length-append}
 use Rattle.job.specs.declared.record.Job.{Job}
-use Rattle.job.specs.declared.list.JobList.{JobList}
 use Rattle.job.specs.Limit.{original}
 use Rattle.job.specs.Check.{noJob, jobAt}
 use Rattle.run.specs.declared.setting.Setting.{Setting}
@@ -21,7 +18,7 @@ use Rattle.sheet.specs.Form.{numberMost, orderLetter, modelLetter, first
 use Rattle.sheet.specs.Sheet.{blankSheet}
 use Rattle.sheet.specs.Reader.{startReader, fitsOf, ownByte, valueAfter, advancedOf, endByte, sheetOf, pushedOf, jobStoredOf, storedOf}
 use Rattle.sheet.specs.Meaning.{Reads}
-use Rattle.sheet.proofs.ByteLaws.{readerAt, letter-own, letter-value, number-own, number-value, own-fits, own-leaves, end-fits, end-leaves}
+use Rattle.sheet.proofs.ByteLaws.{readerAt, number-own, number-value, own-fits, own-leaves, end-fits, end-leaves}
 use Rattle.sheet.proofs.PushedLaws.{pushedAll, lastJob, all-count, all-at}
 use Rattle.sheet.proofs.RunLaws.{runFrom, Runs, no-bytes, one-byte, _then_}
 

@@ -7,13 +7,10 @@ use native.Mathlib.Omega.{arith}
 use lib.Dec.{eqb}
 use lib.ListN.{length, length-append}
 use Rattle.job.specs.declared.record.Job.{Job}
-use Rattle.job.specs.Limit.{original}
-use Rattle.job.specs.Check.{jobAt}
 use Rattle.run.specs.declared.setting.Setting.{Setting}
-use Rattle.run.specs.Setting.{orderW}
 use Rattle.text.specs.Decimal.{decimalOf}
 use Rattle.text.proofs.DecimalLaws.{decimal-some, decimal-cut}
-use Rattle.sheet.specs.Form.{numberMost, orderLetter, modelLetter, firstLine, jobLine, jobLines, SmallJob, SheetOf}
+use Rattle.sheet.specs.Form.{numberMost, orderLetter, modelLetter, firstLine, jobLine, jobLines, SmallJob}
 use Rattle.sheet.specs.Meaning.{TextDetermined, ValuesDetermined}
 use Rattle.sheet.proofs.HoldsLaws.{SmallJobs}
 

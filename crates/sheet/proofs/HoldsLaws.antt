@@ -1,6 +1,6 @@
 -- Bytes that fitted are the text of what the reader holds: the lines that ended, the fields before the open one, and what is read of it.
 use mathlib.Core.Path.{_≡_, refl, sym, _∙_, ap, subst}
-use mathlib.Core.Bool.{Bool, true, false, _||_, cond}
+use mathlib.Core.Bool.{true, _||_, cond}
 use mathlib.Core.Logic.{_⊎_, inl, inr}
 use mathlib.Core.List.{List, [], _∷_, _++_, append-assoc, append-nil}
 use Prim.Native.Nat.{ℕ, zero, suc, _+_, _-_, _*_, _^_, _≤_, _<_}
@@ -8,12 +8,11 @@ use native.Mathlib.Nat.{pow-le-pow-right}
 use native.Mathlib.Decide.{decLt}
 use native.Mathlib.Omega.{arith}
 use lib.Dec.{eqb}
-use lib.ListN.{length, length-append, List·getD-append}
-use lib.Seq.{getD-append-seam}
+use lib.ListN.{length, length-append}
 use borrow.Author.Tests.{eqb-true}
 use Rattle.job.specs.declared.record.Job.{Job}
 use Rattle.job.specs.Limit.{original}
-use Rattle.job.specs.Check.{noJob, jobAt}
+use Rattle.job.specs.Check.{jobAt}
 use Rattle.job.proofs.TestLaws.{both}
 use Rattle.run.specs.Setting.{orderW}
 use Rattle.run.proofs.CondLaws.{by-test}

@@ -1,6 +1,6 @@
 -- The statements of specs/Meaning about a read.
 use mathlib.Core.Path.{_≡_, refl, sym, _∙_, ap, subst}
-use mathlib.Core.Bool.{Bool, true, false, _||_, or-true}
+use mathlib.Core.Bool.{Bool, true, false, or-true}
 use mathlib.Core.Logic.{_↔_, _⊎_, inl, inr}
 use mathlib.Core.List.{List, [], _∷_}
 use Prim.Native.Nat.{ℕ, suc, _+_, _≤_, _<_}
@@ -9,20 +9,18 @@ use native.Mathlib.Decide.{decLt}
 use native.Mathlib.Omega.{arith}
 use lib.Dec.{eqb, ltb}
 use lib.ListN.{length, take, getD}
-use borrow.Author.Tests.{eqb-true, ltb-true, eq-eqb, lt-ltb, le-ltb}
+use borrow.Author.Tests.{eqb-true, ltb-true, eq-eqb, lt-ltb}
 use Rattle.job.specs.declared.list.JobList.{JobList}
 use Rattle.job.specs.Told.{Told, row, passed}
-use Rattle.job.specs.Check.{otherwise, listTold}
+use Rattle.job.specs.Check.{listTold}
 use Rattle.job.proofs.ToldLaws.{apart, valued}
-use Rattle.job.proofs.TestLaws.{clash, both}
-use Rattle.job.proofs.CheckLaws.{otherwise-passed, otherwise-refused}
+use Rattle.job.proofs.TestLaws.{clash}
 use Rattle.job.proofs.Meaning.{ListView, no-jobs, many-jobs, sound-list, faulty-list, list-view, passes-exactly, row-one-exactly, row-two-exactly, job-rows-exactly}
 use Rattle.sheet.specs.declared.reading.Sheet.{Sheet}
 use Rattle.sheet.specs.Form.{IsSheet, Begins}
 use Rattle.sheet.specs.Sheet.{bytesMost, slotsMost, sheetTold}
-use Rattle.sheet.specs.Reader.{betweenLines, fitsUpto, placeUpto}
 use Rattle.sheet.specs.Answer.{lastReader, formTold, readTold}
-use Rattle.sheet.specs.Meaning.{FormExactly, Reads, ValuesRead, StopsAt, RowThirteenExactly, RowSeventeenExactly, RowSixteenExactly}
+use Rattle.sheet.specs.Meaning.{FormExactly, ValuesRead, StopsAt, RowThirteenExactly, RowSeventeenExactly, RowSixteenExactly}
 use Rattle.sheet.proofs.ByteLaws.{either, refuted}
 use Rattle.sheet.proofs.CompleteLaws.{read-values}
 use Rattle.sheet.proofs.ReadLaws.{slotsRefused, slots-refused, slots-pass, form-passes, form-refused, read-long, read-formed, read-formless}

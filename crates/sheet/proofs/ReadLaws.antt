@@ -1,6 +1,6 @@
 -- How a read is told: by its length, by its form, and by what the sheet holds; and what stands beside it.
-use mathlib.Core.Path.{_≡_, refl, sym, _∙_, ap}
-use mathlib.Core.Bool.{Bool, true, false, _||_, cond}
+use mathlib.Core.Path.{_≡_, sym, _∙_, ap}
+use mathlib.Core.Bool.{Bool, true, false, _||_}
 use mathlib.Core.List.{List, [], _∷_}
 use Prim.Native.Nat.{ℕ, _≤_, _<_}
 use lib.Dec.{eqb, ltb}
@@ -62,7 +62,7 @@ module _ (bytes : List ℕ) where
         ∙ refused
 
   -- an answer and the sheet beside it
-  abbrev pub Answers : Checked → Sheet → Type 0
+  abbrev Answers : Checked → Sheet → Type 0
   Answers answer sheet = (toldChecked answer ≡ readTold bytes) × (sheet ≡ readSheet bytes)
 
   pub refused-answers :

@@ -1,7 +1,7 @@
 -- The first bytes fit exactly if some sheet begins with them, and the place is where they stop to fit.
-use mathlib.Core.Path.{_≡_, refl, sym, _∙_, ap, subst}
+use mathlib.Core.Path.{_≡_, refl, _∙_, ap, subst}
 use mathlib.Core.Bool.{Bool, true, false, _&&_}
-use mathlib.Core.List.{List, [], _∷_, _++_}
+use mathlib.Core.List.{List}
 use Prim.Native.Nat.{ℕ, zero, suc, _≤_, _<_}
 use native.Mathlib.Decide.{decLt, le-ind}
 use native.Mathlib.Omega.{arith}
@@ -9,7 +9,6 @@ use lib.ListN.{length, take}
 use lib.Seq.{take-suc, take-length}
 use Rattle.job.proofs.TestLaws.{both, clash}
 use Rattle.run.proofs.CondLaws.{by-test}
-use Rattle.sheet.specs.declared.reader.Reader.{Reader}
 use Rattle.sheet.specs.Form.{IsSheet, Begins}
 use Rattle.sheet.specs.Reader.{byteAt, startReader, fitsOf, betweenLines, readerUpto, fitsUpto, placeUpto}
 use Rattle.sheet.specs.Answer.{lastReader}

@@ -1,14 +1,11 @@
+-- `end_byte` meets its contract. Assumes nothing.
 use mathlib.Core.Path.{refl}
 use Rattle.sheet.proofs.reader.end_byte.Statement.{statement}
 use Rattle.sheet.proofs.reader.end_byte.Tie as tie
-use Rattle.sheet.proofs.reader.end_byte.Reads as reads
-use Rattle.sheet.proofs.reader.end_byte.Lts as lts
 
--- src/reader.rt:39:1
 returns : tie.Need-returns
 returns c = rw (c .if1 .taken) refl
 
--- src/reader.rt:39:1
 returns-2 : tie.Need-returns-2
 returns-2 c = rw (c .if1 .left) refl
 

@@ -1,42 +1,32 @@
+-- `job_stored` meets its contract: in each arm the field is that arm's. Assumes nothing.
+use mathlib.Core.Path.{refl}
 use borrow.Author.Tests.{ne-eqb}
-use mathlib.Core.Path.{refl, _∙_}
-use Rattle.sheet.specs.Reader.{jobStoredOf}
 use borrow.Author.Needs.{needs}
+use Rattle.sheet.specs.Reader.{jobStoredOf}
 use Rattle.sheet.proofs.reader.job_stored.Statement.{statement}
 use Rattle.sheet.proofs.reader.job_stored.Tie as tie
-use Rattle.sheet.proofs.reader.job_stored.Reads as reads
-use Rattle.sheet.proofs.reader.job_stored.Lts as lts
-use Rattle.sheet.proofs.reader.opened.Reads as opened-reads
-use Rattle.sheet.proofs.reader.pushed.Reads as pushed-reads
 
--- src/reader.rt:83:35
 add-opened : tie.Need-add-opened
 add-opened c = search needs
 
--- src/reader.rt:83:9
 opened-requires : tie.Need-opened-requires
 opened-requires c κs = search needs
 
--- src/reader.rt:102:13
 pushed-requires : tie.Need-pushed-requires
 pushed-requires c κs = rw (c .before .before .before .before .opened .ensures) (c .before .before .before .before .before .pre .0)
 
--- src/reader.rt:76:1
 returns : tie.Need-returns
 unfolding jobStoredOf
 returns c = rw (c .before .before .opened .ensures, jobStoredOf, c .before .match .keys1) refl
 
--- src/reader.rt:76:1
 returns-2 : tie.Need-returns-2
 unfolding jobStoredOf
 returns-2 c = rw (c .before .before .opened .ensures, jobStoredOf, c .before .match .keys2) refl
 
--- src/reader.rt:76:1
 returns-3 : tie.Need-returns-3
 unfolding jobStoredOf
 returns-3 c = rw (c .before .before .opened .ensures, jobStoredOf, c .before .match .keys3) refl
 
--- src/reader.rt:76:1
 returns-4 : tie.Need-returns-4
 unfolding jobStoredOf
 returns-4 c =

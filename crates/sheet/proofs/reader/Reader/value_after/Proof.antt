@@ -1,37 +1,29 @@
-use native.Mathlib.Omega.{arith}
-use Rattle.sheet.proofs.ByteLaws.{letter-value, own-number, number-value, sound-value}
+-- `Reader::value_after` meets its contract: a sound reader's value has room for one more digit. Assumes nothing.
 use mathlib.Core.Path.{refl, sym}
+use native.Mathlib.Omega.{arith}
 use borrow.Author.Needs.{needs}
+use Rattle.sheet.proofs.ByteLaws.{letter-value, own-number, number-value, sound-value}
 use Rattle.sheet.proofs.reader.Reader.value_after.Statement.{statement}
 use Rattle.sheet.proofs.reader.Reader.value_after.Tie as tie
-use Rattle.sheet.proofs.reader.Reader.value_after.Reads as reads
-use Rattle.sheet.proofs.reader.Reader.value_after.Lts as lts
 
--- src/reader.rt:156:13
 returns : tie.Need-returns
 returns c = rw (letter-value (c .before .before .before .args .self) (c .before .before .before .args .byte) (search needs), c .if2 .taken) refl
 
--- src/reader.rt:156:13
 returns-2 : tie.Need-returns-2
 returns-2 c = rw (letter-value (c .before .before .before .args .self) (c .before .before .before .args .byte) (search needs), c .if2 .left) refl
 
--- src/reader.rt:162:9
 mul-result : tie.Need-mul-result
 mul-result c = omega (arith, sound-value (c .before .before .before .args .self) (c .before .before .before .pre .0))
 
--- src/reader.rt:162:29
 sub-result : tie.Need-sub-result
 sub-result c = own-number (c .before .before .before .args .self) (c .before .before .before .args .byte) (search needs) (c .before .before .before .pre .1) .low
 
--- src/reader.rt:162:28
 cast-result : tie.Need-cast-result
 cast-result c = search needs
 
--- src/reader.rt:162:9
 add-result : tie.Need-add-result
 add-result c = omega (arith, sound-value (c .before .before .before .args .self) (c .before .before .before .pre .0), own-number (c .before .before .before .args .self) (c .before .before .before .args .byte) (search needs) (c .before .before .before .pre .1) .high)
 
--- src/reader.rt:150:5
 returns-3 : tie.Need-returns-3
 returns-3 c = sym (number-value _ _ (search needs))
 

@@ -1,11 +1,12 @@
 -- How long the parts of a line are at most, and that every line fits the buffer of 192 bytes.
-use mathlib.Core.Path.{refl}
+use mathlib.Core.Path.{_≡_, refl, sym, ap, _∙_}
 use mathlib.Core.Bool.{Bool, true, false, cond, _&&_}
-use mathlib.Core.List.{[]}
+use mathlib.Core.List.{List, []}
 use Prim.Native.Nat.{ℕ, _≤_}
 use native.Mathlib.Omega.{arith}
 use lib.Dec.{leb, eqb}
 use lib.ListN.{length, getD, length-append}
+use lib.Seq.{length-take-le}
 use Rattle.job.specs.Told.{Told}
 use Rattle.run.specs.declared.answer.Choice.{Choice}
 use Rattle.run.specs.declared.answer.Choice.the-variants.{Given, Idle}
@@ -15,11 +16,13 @@ use Rattle.admission.specs.Answer.{cycleReturned, loadReturned}
 use Rattle.text.specs.Ascii.{ascii}
 use Rattle.text.specs.Decimal.{decimalOf}
 use Rattle.text.proofs.PrintLaws.{decimal-most}
-use Rattle.lines.specs.Parts.{labelled}
+use Rattle.lines.specs.Parts.{labelled, Fills}
 use Rattle.lines.specs.Slot.{choiceText, setText, slotText}
 use Rattle.lines.specs.Summary.{verdictWord, admissionText, totalsText}
 use Rattle.lines.specs.Refused.{valueText, refusalText}
 use Rattle.lines.proofs.SetLaws.{set-most}
+use Rattle.text.specs.Written.{written}
+use Rattle.text.proofs.WrittenLaws.{Ends, from-start, written-length}
 
 pub choice-most : (choice : Choice) → length (choiceText choice) ≤ 20
 choice-most (Given j) = decimal-most j
@@ -96,3 +99,12 @@ totals-fits t = let known = totals-most t in simp length-append (omega arith)
 pub refusal-fits : (t : Told) → length (refusalText t) ≤ 192
 unfolding refusalText
 refusal-fits t = simp length-append (omega (arith, decimal-most (t .number), value-most t))
+
+-- a whole line, from the buffer's start on
+pub whole-line :
+    {b₀ x b : List ℕ} {r : ℕ} → length b₀ ≡ 192 → length x ≤ 192 → Ends b₀ 0 x b r
+    → (r ≡ length x) × ((b ≡ written b₀ 0 x) × Fills r b)
+whole-line {b₀} {x} {b} {r} long fits e =
+    let from = from-start e in
+    let kept : length b ≡ 192 = ap length (from .1) ∙ written-length b₀ 0 x (omega arith) ∙ long in
+    (from .0, (from .1, (omega (arith, from .0), sym (length-take-le r b (omega (arith, from .0))), omega (arith, from .0))))

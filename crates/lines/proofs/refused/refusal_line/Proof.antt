@@ -5,10 +5,10 @@ use borrow.Author.Needs.{needs}
 use Rattle.job.specs.Told.{told}
 use Rattle.text.specs.Ascii.{ascii}
 use Rattle.text.proofs.PrintLaws.{decimal-most}
-use Rattle.text.proofs.WrittenLaws.{ends, ends-as, followed, from-start}
+use Rattle.text.proofs.WrittenLaws.{ends, ends-as, followed}
 use Rattle.lines.specs.Parts.{labelled}
 use Rattle.lines.specs.Refused.{valueText, refusalText}
-use Rattle.lines.proofs.LengthLaws.{value-most}
+use Rattle.lines.proofs.LengthLaws.{value-most, refusal-fits, whole-line}
 use Rattle.lines.proofs.refused.refusal_line.Statement.{statement}
 use Rattle.lines.proofs.refused.refusal_line.Tie as tie
 
@@ -40,7 +40,7 @@ returns c =
     let number = c .before .before .before .before .before .before .number in
     let number-most = decimal-most (number .result) in
     let told-most = value-most (told (a .refusal)) in
-    from-start
+    whole-line (omega arith) (refusal-fits (told (a .refusal)))
     (followed
     (ends-as (ap (labelled (ascii "refused ")) (number .ensures))
     (ends (a .buf .now) 0 (labelled (ascii "refused ") (number .result)) (c .before .before .before .before .before .put-labelled .ensures) (omega arith)))

@@ -3,9 +3,9 @@ use native.Mathlib.Omega.{arith}
 use borrow.Author.Needs.{needs}
 use Rattle.text.specs.Ascii.{ascii}
 use Rattle.text.specs.Decimal.{decimalOf}
-use Rattle.text.proofs.WrittenLaws.{ends, followed, from-start}
+use Rattle.text.proofs.WrittenLaws.{ends, followed}
 use Rattle.lines.specs.Slot.{choiceText, setText, slotText}
-use Rattle.lines.proofs.LengthLaws.{slot-most}
+use Rattle.lines.proofs.LengthLaws.{slot-most, slot-fits, whole-line}
 use Rattle.lines.proofs.slot.slot_line.Statement.{statement}
 use Rattle.lines.proofs.slot.slot_line.Tie as tie
 
@@ -59,7 +59,7 @@ unfolding slotText
 returns c =
     let a = c .before .before .before .before .before .before .before .before .before .before .before .before .before .before .before .before .args in
     let known = slot-most (a .number) (a .slot) in
-    from-start
+    whole-line (omega arith) (slot-fits (a .number) (a .slot))
     (followed (ends (a .buf .now) 0 (decimalOf (a .number)) (c .before .before .before .before .before .before .before .before .before .before .before .before .before .before .put-decimal .ensures) (omega arith))
     (followed (ends _ _ (ascii " ") (c .before .before .before .before .before .before .before .before .before .before .before .put-text .ensures) (omega arith))
     (followed (ends _ _ (choiceText (a .slot .choice)) (c .before .before .before .before .before .before .before .before .before .put-choice .ensures) (omega arith))

@@ -4,10 +4,10 @@ use native.Mathlib.Omega.{arith}
 use borrow.Author.Needs.{needs}
 use Rattle.text.specs.Ascii.{ascii}
 use Rattle.text.proofs.PrintLaws.{decimal-most}
-use Rattle.text.proofs.WrittenLaws.{ends, ends-as, followed, from-start}
+use Rattle.text.proofs.WrittenLaws.{ends, ends-as, followed}
 use Rattle.lines.specs.Parts.{labelled}
 use Rattle.lines.specs.Summary.{verdictWord, admissionText}
-use Rattle.lines.proofs.LengthLaws.{word-most}
+use Rattle.lines.proofs.LengthLaws.{word-most, admission-fits, whole-line}
 use Rattle.lines.proofs.summary.admission_line.Statement.{statement}
 use Rattle.lines.proofs.summary.admission_line.Tie as tie
 
@@ -43,7 +43,7 @@ returns c =
     let number = c .before .number in
     let cycle-most = decimal-most (cycle .result) in
     let load-most = decimal-most (load .result) in
-    from-start
+    whole-line (omega arith) (admission-fits _)
     (followed
     (ends-as (ap (labelled (ascii "cycle ")) (cycle .ensures))
     (ends (c .before .before .before .before .before .before .before .before .before .before .before .args .buf .now) 0 (labelled (ascii "cycle ") (cycle .result)) (c .before .before .before .before .before .before .before .put-labelled .ensures) (omega arith)))

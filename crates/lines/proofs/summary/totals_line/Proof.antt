@@ -2,10 +2,10 @@
 use native.Mathlib.Omega.{arith}
 use borrow.Author.Needs.{needs}
 use Rattle.text.specs.Ascii.{ascii}
-use Rattle.text.proofs.WrittenLaws.{ends, followed, from-start}
+use Rattle.text.proofs.WrittenLaws.{ends, followed}
 use Rattle.lines.specs.Parts.{labelled}
 use Rattle.lines.specs.Summary.{totalsText}
-use Rattle.lines.proofs.LengthLaws.{totals-most}
+use Rattle.lines.proofs.LengthLaws.{totals-most, totals-fits, whole-line}
 use Rattle.lines.proofs.summary.totals_line.Statement.{statement}
 use Rattle.lines.proofs.summary.totals_line.Tie as tie
 
@@ -51,7 +51,7 @@ returns c =
     let a = c .before .before .before .before .before .before .before .before .before .before .before .before .before .before .before .before .before .args in
     let t = a .totals in
     let known = totals-most t in
-    from-start
+    whole-line (omega arith) (totals-fits t)
     (followed (ends (a .buf .now) 0 (labelled (ascii "given ") (t .given)) (c .before .before .before .before .before .before .before .before .before .before .before .before .before .put-labelled .ensures) (omega arith))
     (followed (ends _ _ (labelled (ascii " idle ") (t .idle)) (c .before .before .before .before .before .before .before .before .before .put-labelled2 .ensures) (omega arith))
     (followed (ends _ _ (labelled (ascii " tagged ") (t .tags)) (c .before .before .before .before .before .before .put-labelled3 .ensures) (omega arith))

@@ -12,9 +12,6 @@ use Rattle.job.proofs.ToldLaws.{told-refuses}
 use Rattle.job.proofs.CheckLaws.{no-job-told, one-more, by-count, by-jobs, found}
 use Rattle.job.proofs.list.JobList.check.Statement.{statement}
 use Rattle.job.proofs.list.JobList.check.Tie as tie
-use Rattle.job.proofs.list.JobList.check.Reads as reads
-use Rattle.job.proofs.list.JobList.check.Lts as lts
-use Rattle.job.proofs.record.Job.check.Reads as check-reads
 
 abbrev Inv-loop : tie.InvT-loop
 Inv-loop self count at₀ at = (at ≤ self .count) × (jobsTold (self .jobs) at ≡ passed)

@@ -1,11 +1,13 @@
 -- Each public operation's promise allows one result: by one law for equations, and that `told` is one-to-one.
 use mathlib.Core.Path.{_≡_, sym, _∙_}
+use mathlib.Core.List.{List}
+use Prim.Native.Nat.{ℕ}
 use Rattle.job.specs.Told.{toldChecked}
 use Rattle.job.proofs.ToldLaws.{checked-one-to-one}
 use Rattle.admission.proofs.AnswerLaws.{admission-one-to-one}
 use Rattle.admission.proofs.DivisorLaws.{divisor-unique}
 use Rattle.run.proofs.AnswerLaws.{step-one-to-one}
-use Rattle.promises.specs.Unique.{Unique, JobCheckUnique, ListCheckUnique, DivisorUnique, VerdictUnique, StartUnique, StepUnique, WriteUnique}
+use Rattle.promises.specs.Unique.{Unique, JobCheckUnique, ListCheckUnique, DivisorUnique, VerdictUnique, StartUnique, StepUnique, WriteUnique, Left, AdmitUnique, ReadUnique, LineUnique, AdmitEntryUnique, FillEntryUnique}
 
 -- a result fixed by an equation
 pub fixed : {A : Type 0} (x : A) → Unique (λ (r : A). r ≡ x)
@@ -52,3 +54,27 @@ write-unique s bytes offset n a b e f =
           };
       bytes = fixed _ (a .bytes) (b .bytes) (e .2) (f .2) i;
     }
+
+pub admit-unique : AdmitUnique
+admit-unique jobs model a b e f = admission-one-to-one a b (e ∙ sym f)
+
+pub read-unique : ReadUnique
+read-unique bytes a b e f =
+    λ i. record {
+      answer = checked-one-to-one (a .answer) (b .answer) (e .0 ∙ sym (f .0)) i;
+      sheet = fixed _ (a .sheet) (b .sheet) (e .1) (f .1) i;
+    }
+
+-- a number beside a buffer
+both-fixed : {x : ℕ} {bytes : List ℕ} → Unique (λ (r : Left ℕ). (r .result ≡ x) × (r .bytes ≡ bytes))
+both-fixed a b e f =
+    λ i. record { result = fixed _ (a .result) (b .result) (e .0) (f .0) i; bytes = fixed _ (a .bytes) (b .bytes) (e .1) (f .1) i }
+
+pub line-unique : LineUnique
+line-unique text before = both-fixed
+
+pub admit-entry-unique : AdmitEntryUnique
+admit-entry-unique jobs model = fixed _
+
+pub fill-entry-unique : FillEntryUnique
+fill-entry-unique jobs bytes setting offset n = both-fixed

@@ -6,14 +6,14 @@ use mathlib.Core.List.{List}
 use lib.ListN.{length}
 use Rattle.job.specs.declared.record.Job.{Job}
 use Rattle.job.specs.declared.list.JobList.{JobList}
-use Rattle.job.specs.declared.refusal.Refusal.{Refusal}
 use Rattle.job.specs.declared.refusal.Checked.{Checked}
-use Rattle.job.specs.Told.{told, toldChecked}
+use Rattle.job.specs.Told.{toldChecked}
 use Rattle.job.specs.Check.{jobTold, listTold}
 use Rattle.admission.specs.declared.answer.Admission.{Admission}
 use Rattle.admission.specs.Divisor.{GreatestDivisor}
 use Rattle.admission.specs.Answer.{toldAdmission}
 use Rattle.admission.specs.Verdict.{verdictTold}
+use Rattle.admission.specs.Lent.{admitOf}
 use Rattle.run.specs.declared.setting.Setting.{Setting}
 use Rattle.run.specs.declared.state.State.{State}
 use Rattle.run.specs.declared.answer.Started.{Started}
@@ -22,6 +22,10 @@ use Rattle.run.specs.Answer.{toldStep}
 use Rattle.run.specs.Step.{startTold, startState, stepTold, stepState}
 use Rattle.timetable.specs.declared.writer.Written.{Written}
 use Rattle.timetable.specs.Table.{writeTold, writeState, writeBytes}
+use Rattle.text.specs.Written.{written}
+use Rattle.sheet.specs.declared.reading.ReadSheet.{ReadSheet}
+use Rattle.sheet.specs.Answer.{readTold, readSheet}
+use Rattle.entry.specs.Entry.{admitTold, fillTold, fillBytes}
 
 -- a promise about results of one input allows one result
 abbrev pub Unique : {A : Type 0} → (A → Type 0) → Type 0
@@ -64,3 +68,28 @@ WriteUnique =
     (toldChecked (r .result .answer) ≡ writeTold s (length bytes) offset n)
     × (r .result .state ≡ writeState s (length bytes) offset n)
     × (r .bytes ≡ writeBytes s bytes offset n))
+
+-- `admit`, on a lent slice of job structs
+abbrev pub AdmitUnique : Type 0
+AdmitUnique = (jobs : List Job) (model : ℕ) → Unique (λ (r : Admission). toldAdmission r ≡ admitOf jobs model)
+
+-- `sheet::read`
+abbrev pub ReadUnique : Type 0
+ReadUnique =
+    (bytes : List ℕ) → Unique (λ (r : ReadSheet). (toldChecked (r .answer) ≡ readTold bytes) × (r .sheet ≡ readSheet bytes))
+
+-- the lines: a length, and the bytes of the lent buffer
+abbrev pub LineUnique : Type 0
+LineUnique =
+    (text before : List ℕ) → Unique (λ (r : Left ℕ). (r .result ≡ length text) × (r .bytes ≡ written before 0 text))
+
+-- the C entries: a number, and for the fill the bytes of the lent buffer
+abbrev pub AdmitEntryUnique : Type 0
+AdmitEntryUnique = (jobs : List ℕ) (model : ℕ) → Unique (λ (r : ℕ). r ≡ admitTold jobs model .number)
+
+abbrev pub FillEntryUnique : Type 0
+FillEntryUnique =
+    (jobs bytes : List ℕ) (setting : Setting) (offset n : ℕ)
+    → Unique
+    (λ (r : Left ℕ).
+    (r .result ≡ fillTold jobs setting (length bytes) offset n .number) × (r .bytes ≡ fillBytes jobs setting bytes offset n))

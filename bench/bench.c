@@ -3,7 +3,8 @@
 
      bench                  the whole table, as text, and as bench/speed.csv's lines on request (--csv FILE)
      bench --compare        one short round: only the outputs are compared
-     bench --only WHO I     cell I run once by WHO (entry or plain), for an instruction counter */
+     bench --only WHO I     cell I run once by WHO (entry or plain), for an instruction counter
+     bench --admit N        N admissions of 16 jobs whose windows have the common cycle 16,777,215 */
 #define _POSIX_C_SOURCE 200809L
 #include "filbertoss.h"
 #include "plain.h"
@@ -152,8 +153,35 @@ static void table(FILE *csv)
     printf("mean ratio %.2f, least %.2f, %d cells of %d slots, best of %d\n", sum / CELLS, least, CELLS, SLOTS, REPEATS);
 }
 
+/* Divisors of 16,777,215 as periods, so that all 16 remainders are taken and none is refused by row 8. */
+static void admit(int times)
+{
+    static const uint16_t periods[16] = {4095, 241, 1365, 819, 585, 455, 315, 273, 221, 119, 105, 85, 63, 51, 39, 35};
+    uint8_t bytes[96];
+    for (size_t i = 0; i < 16; i++) {
+        uint8_t *b = bytes + 6 * i;
+        b[0] = 1;
+        b[1] = 0;
+        b[2] = (uint8_t)(periods[i] & 255);
+        b[3] = (uint8_t)(periods[i] >> 8);
+        b[4] = 1;
+        b[5] = i == 1 ? 17 : 1;
+    }
+    for (int i = 0; i < times; i++) {
+        uint32_t answer = filbertoss_admit(bytes, sizeof bytes, 0);
+        if (answer != 0) {
+            fprintf(stderr, "bench: a list that is to be admitted is refused by %u\n", answer);
+            exit(1);
+        }
+    }
+}
+
 int main(int argc, char **argv)
 {
+    if (argc == 3 && strcmp(argv[1], "--admit") == 0) {
+        admit(atoi(argv[2]));
+        return 0;
+    }
     if (argc == 2 && strcmp(argv[1], "--compare") == 0) {
         for (int i = 0; i < CELLS; i++) {
             struct cell c = make_cell(i);

@@ -14,8 +14,11 @@ use Rattle.job.proofs.refusal.Refusal.{the-type}
 use Rattle.job.proofs.ToldLaws.{one-to-one, rowBack, row-back, told-refuses}
 use Rattle.admission.specs.declared.answer.Admission.{Admission}
 use Rattle.admission.specs.declared.answer.Admission.the-variants.{Admitted, Refused}
+use Rattle.admission.specs.declared.inner.Cycle.{Cycle}
+use Rattle.admission.specs.declared.inner.Cycle.the-variants.{Of, TooLong}
+use Rattle.admission.specs.Cycle.{toldCycle}
 use Rattle.admission.specs.Answer.{toldAdmission, returnsBoth}
-use Rattle.admission.specs.Meaning.{AdmissionOneToOne}
+use Rattle.admission.specs.Meaning.{AdmissionOneToOne, CycleOneToOne}
 
 -- what is returned of an answer is what is returned of its variant
 pub returned : (f : Told → ℕ) {a b : Admission} → a ≡ b → f (toldAdmission b) ≡ f (toldAdmission a)
@@ -62,3 +65,14 @@ admission-back (Refused r) = rw (told-refuses r) (ap Refused (row-back r))
 
 pub admission-one-to-one : AdmissionOneToOne
 admission-one-to-one = one-to-one toldAdmission admissionBack admission-back
+
+cycleBack : Told → Cycle
+cycleBack t = cond (eqb (t .number) 0) (Of (getD (t .values) 0 0)) TooLong
+
+cycle-back : (c : Cycle) → cycleBack (toldCycle c) ≡ c
+unfolding cycleBack
+cycle-back (Of h) = refl
+cycle-back TooLong = refl
+
+pub cycle-one-to-one : CycleOneToOne
+cycle-one-to-one = one-to-one toldCycle cycleBack cycle-back

@@ -11,7 +11,8 @@ use Rattle.job.specs.Sound.{SoundList, LowestFault}
 use Rattle.admission.specs.declared.answer.Admission.{Admission}
 use Rattle.admission.specs.Divisor.{GreatestDivisor, gcd}
 use Rattle.job.specs.Window.{windowOf}
-use Rattle.admission.specs.Cycle.{cycleOf}
+use Rattle.admission.specs.declared.inner.Cycle.{Cycle}
+use Rattle.admission.specs.Cycle.{cycleOf, toldCycle}
 use Rattle.admission.specs.Load.{shareOf, loadOf}
 use Rattle.admission.specs.Answer.{toldAdmission}
 use Rattle.admission.specs.Verdict.{verdictTold}
@@ -19,6 +20,9 @@ use Rattle.admission.specs.Verdict.{verdictTold}
 -- an answer is determined by the paper's number and values
 abbrev pub AdmissionOneToOne : Type 0
 AdmissionOneToOne = (a b : Admission) → toldAdmission a ≡ toldAdmission b → a ≡ b
+
+abbrev pub CycleOneToOne : Type 0
+CycleOneToOne = (a b : Cycle) → toldCycle a ≡ toldCycle b → a ≡ b
 
 -- two numbers have one greatest common divisor, and Euclid's rule finds it
 abbrev pub DivisorUnique : Type 0

@@ -12,7 +12,9 @@ use lib.ListN.{length, take, getD}
 use borrow.Author.Tests.{eqb-true, ltb-true, eq-eqb, lt-ltb}
 use Rattle.job.specs.declared.list.JobList.{JobList}
 use Rattle.job.specs.Told.{Told, row, passed}
-use Rattle.job.specs.Check.{listTold}
+use Rattle.job.specs.Check.{listTold, jobAt}
+use Rattle.job.specs.Sound.{FaultOf, t-fault, c-fault, k-fault, m-fault, LowestFault}
+use Rattle.job.specs.declared.record.Job.{Job}
 use Rattle.job.proofs.ToldLaws.{apart, valued}
 use Rattle.job.proofs.TestLaws.{clash}
 use Rattle.job.proofs.Meaning.{ListView, no-jobs, many-jobs, sound-list, faulty-list, list-view, passes-exactly, row-one-exactly, row-two-exactly, job-rows-exactly}
@@ -20,7 +22,7 @@ use Rattle.sheet.specs.declared.reading.Sheet.{Sheet}
 use Rattle.sheet.specs.Form.{IsSheet, Begins}
 use Rattle.sheet.specs.Sheet.{bytesMost, slotsMost, sheetTold}
 use Rattle.sheet.specs.Answer.{lastReader, formTold, readTold}
-use Rattle.sheet.specs.Meaning.{FormExactly, ValuesRead, StopsAt, RowThirteenExactly, RowSeventeenExactly, RowSixteenExactly}
+use Rattle.sheet.specs.Meaning.{FormExactly, ValuesRead, StopsAt, RowThirteenExactly, ReadThirteenExactly, RowSeventeenExactly, RowSixteenExactly}
 use Rattle.sheet.proofs.ByteLaws.{either, refuted}
 use Rattle.sheet.proofs.CompleteLaws.{read-values}
 use Rattle.sheet.proofs.ReadLaws.{slotsRefused, slots-refused, slots-pass, form-passes, form-refused, read-long, read-formed, read-formless}
@@ -94,8 +96,14 @@ row-thirteen-exactly bytes place = (go (formFits bytes) refl, back)
         ∙ ap (λ (p : ℕ). row 13 (p ∷ [])) (place-is bytes (stops-stop bytes at))
 
 -- rows 1 to 6 are none of the later ones
-list-below : (l : JobList) (n : ℕ) → 6 < n → listTold l ≡ row n [] → ⊥
-list-below l n h e = go (list-view l)
+fault-low : (j : Job) (r : ℕ) → FaultOf j r → r ≤ 6
+fault-low j _ (t-fault _) = omega arith
+fault-low j _ (c-fault _ _) = omega arith
+fault-low j _ (k-fault _ _ _) = omega arith
+fault-low j _ (m-fault _ _ _ _) = omega arith
+
+list-below : (l : JobList) (n : ℕ) (values : List ℕ) → 6 < n → listTold l ≡ row n values → ⊥
+list-below l n values h e = go (list-view l)
   where
     number : {m : ℕ} {vs : List ℕ} → listTold l ≡ row m vs → m ≡ n
     number f = ap (λ (t : Told). t .number) (sym f ∙ e)
@@ -104,7 +112,8 @@ list-below l n h e = go (list-view l)
     go (no-jobs none) = omega (arith, number (row-one-exactly l .1 none))
     go (many-jobs many) = omega (arith, number (row-two-exactly l .1 many))
     go (sound-list sound) = omega (arith, number (passes-exactly l .1 sound))
-    go (faulty-list r i fault) = valued (sym (job-rows-exactly l r i .1 fault) ∙ e)
+    go (faulty-list r i lowest) =
+        omega (arith, number (job-rows-exactly l r i .1 lowest), fault-low (jobAt (l .jobs) i) r (lowest .fault))
 
 -- what the sheet holds
 module _ (s : Sheet) where
@@ -117,7 +126,7 @@ module _ (s : Sheet) where
 
       go : (b : Bool) → slotsRefused s ≡ b → sheetTold s ≡ row 16 [] → (s .slots ≡ 0) ⊎ (slotsMost < s .slots)
       go true fault e = facts (either (eqb (s .slots) 0) (ltb slotsMost (s .slots)) fault)
-      go false fine e = absurd (list-below (s .list) 16 (omega arith) (sym (slots-pass s fine) ∙ e))
+      go false fine e = absurd (list-below (s .list) 16 [] (omega arith) (sym (slots-pass s fine) ∙ e))
 
       back : (s .slots ≡ 0) ⊎ (slotsMost < s .slots) → sheetTold s ≡ row 16 []
       back (inl none) = slots-refused s (rw (eq-eqb (s .slots) 0 none))
@@ -128,7 +137,14 @@ module _ (s : Sheet) where
     where
       go : (b : Bool) → slotsRefused s ≡ b → sheetTold s ≡ row 17 [] → ⊥
       go true fault e = apart (sym (slots-refused s fault) ∙ e) refl
-      go false fine e = list-below (s .list) 17 (omega arith) (sym (slots-pass s fine) ∙ e)
+      go false fine e = list-below (s .list) 17 [] (omega arith) (sym (slots-pass s fine) ∙ e)
+
+  sheet-thirteen : (place : ℕ) → sheetTold s ≡ row 13 (place ∷ []) → ⊥
+  sheet-thirteen place = go (slotsRefused s) refl
+    where
+      go : (b : Bool) → slotsRefused s ≡ b → sheetTold s ≡ row 13 (place ∷ []) → ⊥
+      go true fault e = valued (sym e ∙ slots-refused s fault)
+      go false fine e = list-below (s .list) 13 (place ∷ []) (omega arith) (sym (slots-pass s fine) ∙ e)
 
 -- the whole read
 module _ (bytes : List ℕ) where
@@ -169,3 +185,17 @@ row-sixteen-exactly bytes = (
     go (formless h fits) e = absurd (valued (sym (read-formless bytes h fits) ∙ e))
     go (formed h fits) e =
         (h, fits-sheet bytes fits, sheet-sixteen (lastReader bytes .sheet) .0 (sym (read-formed bytes h fits) ∙ e))
+
+pub read-thirteen-exactly : ReadThirteenExactly
+read-thirteen-exactly bytes place = (go (read-view bytes), λ h. back (h .0) (h .1))
+  where
+    go : ReadView bytes → readTold bytes ≡ row 13 (place ∷ []) → (length bytes ≤ bytesMost) × StopsAt bytes place
+    go (too-long h) e = absurd (apart (sym (read-long bytes h) ∙ e) refl)
+    go (formless h fits) e =
+        (h, row-thirteen-exactly bytes place .0 (form-refused bytes fits ∙ sym (read-formless bytes h fits) ∙ e))
+    go (formed h fits) e = absurd (sheet-thirteen (lastReader bytes .sheet) place (sym (read-formed bytes h fits) ∙ e))
+
+    back : length bytes ≤ bytesMost → StopsAt bytes place → readTold bytes ≡ row 13 (place ∷ [])
+    back h at =
+        let fits = stops-refused bytes at in
+        read-formless bytes h fits ∙ sym (form-refused bytes fits) ∙ row-thirteen-exactly bytes place .1 at

@@ -37,6 +37,13 @@ pub record StopsAt (bytes : List ℕ) (place : ℕ) : Type 0 where
 abbrev pub RowThirteenExactly : Type 0
 RowThirteenExactly = (bytes : List ℕ) (place : ℕ) → (formTold bytes ≡ row 13 (place ∷ [])) ↔ StopsAt bytes place
 
+-- the same of the whole read, where only row 17 goes before
+abbrev pub ReadThirteenExactly : Type 0
+ReadThirteenExactly =
+    (bytes : List ℕ) (place : ℕ)
+    → (readTold bytes ≡ row 13 (place ∷ []))
+    ↔ ((length bytes ≤ bytesMost) × StopsAt bytes place)
+
 -- no two texts are the same sheet, and no text is two sheets
 abbrev pub TextDetermined : Type 0
 TextDetermined =

@@ -23,7 +23,7 @@ fn wide(x: u32) -> u64
 }
 
 // kT, the slots of a job's window.
-pub fn window(job: Job) -> u64
+fn window(job: Job) -> u64
     requires { ⌜ SoundJob job ⌝ }
     ensures { λ r. ⌜ r ≡ windowOf job ⌝ }
 {
@@ -31,7 +31,7 @@ pub fn window(job: Job) -> u64
 }
 
 // mC (H / kT), a job's part of the load of H slots.
-pub fn share(job: Job, cycle: u64) -> u64
+fn share(job: Job, cycle: u64) -> u64
     requires { ⌜ SoundJob job ⌝ }
     requires { ⌜ cycle ≤ cycleMost ⌝ }
     ensures { λ r. ⌜ r ≡ shareOf job cycle ⌝ }
@@ -40,7 +40,7 @@ pub fn share(job: Job, cycle: u64) -> u64
 }
 
 // The least common multiple of all windows. Once it is above the limit it stays so.
-pub fn common_cycle(list: JobList) -> Cycle
+pub(crate) fn common_cycle(list: JobList) -> Cycle
     requires { ⌜ SoundList list ⌝ }
     ensures { λ r. ⌜ toldCycle r ≡ cycleTold list ⌝ }
 {
@@ -60,7 +60,7 @@ pub fn common_cycle(list: JobList) -> Cycle
 }
 
 // The load of a cycle.
-pub fn load(list: JobList, cycle: u64) -> u64
+pub(crate) fn load(list: JobList, cycle: u64) -> u64
     requires { ⌜ SoundList list ⌝ }
     requires { ⌜ cycle ≤ cycleMost ⌝ }
     ensures { λ r. ⌜ r ≡ loadOf list cycle ⌝ }

@@ -2,7 +2,7 @@
 mod answer;
 mod decide;
 pub mod divisor;
-pub mod inner;
+mod inner;
 mod lent;
 
 pub use answer::Admission;

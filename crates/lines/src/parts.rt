@@ -10,7 +10,7 @@ use text::inner::put_decimal;
 use text::inner::put_text;
 
 // A label and a number.
-pub fn put_labelled(buf: &mut [u8], at: usize, label: &[u8], x: u64) -> usize
+pub(crate) fn put_labelled(buf: &mut [u8], at: usize, label: &[u8], x: u64) -> usize
     requires { ⌜ at + length (now label) + 20 ≤ length (now buf) ⌝ }
     ensures { λ r. ⌜ r ≡ at + length (labelled (now (label .entry)) x) ⌝ }
     ensures { λ r. ⌜ now (buf .exit) ≡ written (now (buf .entry)) at (labelled (now (label .entry)) x) ⌝ }
@@ -20,7 +20,7 @@ pub fn put_labelled(buf: &mut [u8], at: usize, label: &[u8], x: u64) -> usize
 }
 
 // 'job or -'
-pub fn put_choice(buf: &mut [u8], at: usize, choice: Choice) -> usize
+pub(crate) fn put_choice(buf: &mut [u8], at: usize, choice: Choice) -> usize
     requires { ⌜ at + 20 ≤ length (now buf) ⌝ }
     ensures { λ r. ⌜ r ≡ at + length (choiceText choice) ⌝ }
     ensures { λ r. ⌜ now (buf .exit) ≡ written (now (buf .entry)) at (choiceText choice) ⌝ }
@@ -32,7 +32,7 @@ pub fn put_choice(buf: &mut [u8], at: usize, choice: Choice) -> usize
 }
 
 // Each member of a set, ascending, after its label.
-pub fn put_set(buf: &mut [u8], at: usize, label: &[u8], set: u16) -> usize
+pub(crate) fn put_set(buf: &mut [u8], at: usize, label: &[u8], set: u16) -> usize
     requires { ⌜ length (now label) ≡ 2 ⌝ }
     requires { ⌜ at + 80 ≤ length (now buf) ⌝ }
     ensures { λ r. ⌜ r ≡ at + length (setText (now (label .entry)) set 16) ⌝ }

@@ -185,7 +185,7 @@ impl Reader {
         self.value * 10 + ((byte - b'0') as u32)
     }
 
-    pub fn advanced(self, byte: u8) -> Reader
+    pub(crate) fn advanced(self, byte: u8) -> Reader
         requires { ⌜ SoundReader self ⌝ }
         requires { ⌜ self .sheet .list .count < 18446744073709551615 ⌝ }
         ensures { λ r. ⌜ r ≡ advancedOf self byte ⌝ }

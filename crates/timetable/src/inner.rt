@@ -26,7 +26,7 @@ fn byte_of(chosen: usize) -> u8
 // Fills the buffer with the next choices, a slot for each byte, and returns the state after them.
 // One pass over the places a slot: each is moved on, and the next slot's choice is found among
 // those moved. The places stand in one local array, so that no state is copied in the loop.
-pub fn fill(state: State, buf: &mut [u8]) -> State
+pub(crate) fn fill(state: State, buf: &mut [u8]) -> State
     requires { ⌜ SoundState state ⌝ }
     requires { ⌜ state .clock + length (now buf) ≤ clockMost ⌝ }
     ensures { λ r. ⌜ r ≡ afterSlots state (length (now (buf .entry))) ⌝ }

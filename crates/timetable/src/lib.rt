@@ -1,5 +1,5 @@
 // The next choices of a run, written into the middle of a lent buffer.
-pub mod inner;
+mod inner;
 mod writer;
 
 pub use writer::Written;

@@ -14,7 +14,7 @@ use crate::state::State;
 pub struct Held {
     pub at: usize,
     pub num: i64,
-    pub den: u32,
+    pub den: u64,
 }
 
 // Nobody yet: farther than any fraction.
@@ -29,28 +29,22 @@ pub fn nobody() -> Held
 }
 
 // 'Order V: lowest virtual deadline'; 'Order W: soonest window end, k'T − e slots away'.
-pub fn distance(setting: Setting, at: usize, q: Place) -> Held
+fn distance(setting: Setting, at: usize, q: Place) -> Held
     requires { ⌜ SoundPlace setting q ⌝ }
     ensures { λ r. ⌜ r ≡ distanceOf setting at q ⌝ }
 {
     if setting.order == Setting::V {
         let num = numerator(setting, q);
-        return Held {
-            at,
-            num,
-            den: owed(setting, q),
-        };
+        let den = owed(setting, q) as u64;
+        return Held { at, num, den };
     }
     let slots = window_left(setting, q) - q.at.e;
-    Held {
-        at,
-        num: slots as i64,
-        den: 1,
-    }
+    let num = slots as i64;
+    Held { at, num, den: 1 }
 }
 
 // 'two are compared exactly as fractions'
-pub fn nearer(a: Held, b: Held) -> bool
+fn nearer(a: Held, b: Held) -> bool
     requires { ⌜ Small a × Small b ⌝ }
     ensures { λ r. ⌜ r ≡ nearerOf a b ⌝ }
 {

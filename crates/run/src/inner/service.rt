@@ -17,7 +17,7 @@ pub struct Outcome {
 }
 
 // The instances finished in this window.
-pub fn finished(setting: Setting, q: Place) -> u32
+fn finished(setting: Setting, q: Place) -> u32
     requires { ⌜ SoundPlace setting q ⌝ }
     ensures { λ r. ⌜ r ≡ finishedOf setting q ⌝ }
 {
@@ -28,7 +28,7 @@ pub fn finished(setting: Setting, q: Place) -> u32
 }
 
 // m', the instances that the window still lacks.
-pub fn owed(setting: Setting, q: Place) -> u32
+pub(crate) fn owed(setting: Setting, q: Place) -> u32
     requires { ⌜ SoundPlace setting q ⌝ }
     ensures { λ r. ⌜ r ≡ owedOf setting q ⌝ }
 {
@@ -36,25 +36,27 @@ pub fn owed(setting: Setting, q: Place) -> u32
 }
 
 // k'T, the slots from this period's start to the window's end.
-pub fn window_left(setting: Setting, q: Place) -> u32
+pub(crate) fn window_left(setting: Setting, q: Place) -> u32
     requires { ⌜ SoundPlace setting q ⌝ }
     ensures { λ r. ⌜ r ≡ windowLeft q ⌝ }
 {
     (q.job.k - q.at.p + 1) * q.job.t
 }
 
-pub fn eligible(setting: Setting, q: Place) -> bool
+// 'u < m times C and u < p times C' is u < (the less of m and p) times C: one product.
+pub(crate) fn eligible(setting: Setting, q: Place) -> bool
     requires { ⌜ SoundPlace setting q ⌝ }
     ensures { λ r. ⌜ r ≡ eligibleOf setting q ⌝ }
 {
     if setting.model == Job::RELAXED {
-        return (q.at.u < q.job.m * q.job.c) & (q.at.u < q.at.p * q.job.c);
+        let most = if q.at.p < q.job.m { q.at.p } else { q.job.m };
+        return q.at.u < most * q.job.c;
     }
     (q.at.s < q.job.m) & (q.at.v < q.job.c)
 }
 
 // k'T − e m', the numerator over m' of the distance to the virtual deadline.
-pub fn numerator(setting: Setting, q: Place) -> i64
+pub(crate) fn numerator(setting: Setting, q: Place) -> i64
     requires { ⌜ SoundPlace setting q ⌝ }
     ensures { λ r. ⌜ r ≡ numeratorOf setting q ⌝ }
 {
@@ -64,7 +66,7 @@ pub fn numerator(setting: Setting, q: Place) -> i64
 }
 
 // Whether m' > 0, without the division that m' may take.
-pub fn lacks(setting: Setting, q: Place) -> bool
+fn lacks(setting: Setting, q: Place) -> bool
     requires { ⌜ SoundPlace setting q ⌝ }
     ensures { λ r. ⌜ r ≡ ltb 0 (owedOf setting q) ⌝ }
 {
@@ -76,7 +78,7 @@ pub fn lacks(setting: Setting, q: Place) -> bool
 
 // Whether m' > 0 and the virtual deadline is at most the next slot's number: k'T ≤ (e + 1) m', which
 // no m' = 0 meets.
-pub fn overdue(setting: Setting, q: Place) -> bool
+fn overdue(setting: Setting, q: Place) -> bool
     requires { ⌜ SoundPlace setting q ⌝ }
     ensures { λ r. ⌜ r ≡ overdueOf setting q ⌝ }
 {
@@ -85,7 +87,7 @@ pub fn overdue(setting: Setting, q: Place) -> bool
 
 // Whether the slot tags the place for the first time in its window. While more than m periods are
 // left, this one counted, no deadline is that near.
-pub fn first_tagged(setting: Setting, q: Place, chosen: bool) -> bool
+fn first_tagged(setting: Setting, q: Place, chosen: bool) -> bool
     requires { ⌜ SoundPlace setting q ⌝ }
     ensures { λ r. ⌜ r ≡ firstTagged setting q chosen ⌝ }
 {
@@ -96,7 +98,7 @@ pub fn first_tagged(setting: Setting, q: Place, chosen: bool) -> bool
 }
 
 // One more unit.
-pub fn served(setting: Setting, q: Place) -> Place
+fn served(setting: Setting, q: Place) -> Place
     requires { ⌜ SoundPlace setting q ⌝ }
     requires { ⌜ eligibleOf setting q ≡ true ⌝ }
     ensures { λ r. ⌜ r ≡ servedOf setting q ⌝ }
@@ -116,7 +118,7 @@ pub fn served(setting: Setting, q: Place) -> Place
     next
 }
 
-pub fn tagged(q: Place) -> Place
+fn tagged(q: Place) -> Place
     ensures { λ r. ⌜ r ≡ taggedOf q ⌝ }
 {
     let mut next = q;
@@ -125,7 +127,7 @@ pub fn tagged(q: Place) -> Place
 }
 
 // The service or the tag of the slot, before the slot passes.
-pub fn worked(setting: Setting, q: Place, chosen: bool, late: bool) -> Place
+fn worked(setting: Setting, q: Place, chosen: bool, late: bool) -> Place
     requires { ⌜ SoundPlace setting q ⌝ }
     requires { ⌜ (chosen ≡ true → eligibleOf setting q ≡ true) ⌝ }
     ensures { λ r. ⌜ r ≡ workedOf setting q chosen late ⌝ }
@@ -140,7 +142,7 @@ pub fn worked(setting: Setting, q: Place, chosen: bool, late: bool) -> Place
 }
 
 // Whether this slot is the window's last.
-pub fn window_ends(setting: Setting, q: Place) -> bool
+fn window_ends(setting: Setting, q: Place) -> bool
     requires { ⌜ SoundPlace setting q ⌝ }
     ensures { λ r. ⌜ r ≡ windowEnds q ⌝ }
 {
@@ -148,15 +150,15 @@ pub fn window_ends(setting: Setting, q: Place) -> bool
 }
 
 // 'A window is short exactly if it ends with m' > 0.'
-pub fn is_short(setting: Setting, q: Place) -> bool
+fn is_short(setting: Setting, q: Place) -> bool
     requires { ⌜ SoundPlace setting q ⌝ }
     ensures { λ r. ⌜ r ≡ shortOf setting q ⌝ }
 {
-    window_ends(setting, q) && lacks(setting, q)
+    window_ends(setting, q) & lacks(setting, q)
 }
 
 // The slot passes: 'Where e reaches T the period ends; where the k-th period ends, the window ends.'
-pub fn turned(setting: Setting, q: Place) -> Place
+fn turned(setting: Setting, q: Place) -> Place
     requires { ⌜ SoundPlace setting q ⌝ }
     ensures { λ r. ⌜ r ≡ turnedOf q ⌝ }
 {

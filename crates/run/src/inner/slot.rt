@@ -36,7 +36,7 @@ pub fn plus_if(b: bool, x: u32, more: u32) -> u32
     if b { x + more } else { x }
 }
 
-pub fn choice_of(at: usize) -> Choice
+fn choice_of(at: usize) -> Choice
     ensures { λ r. ⌜ r ≡ choiceOf at ⌝ }
 {
     if at == 16 {
@@ -91,7 +91,7 @@ fn all_moved(state: State, at: usize) -> Outcomes
     all
 }
 
-pub fn turn(state: State) -> Turned
+pub(crate) fn turn(state: State) -> Turned
     requires { ⌜ SoundState state ⌝ }
     requires { ⌜ state .clock < clockMost ⌝ }
     ensures { λ r. ⌜ r ≡ turnOf state ⌝ }

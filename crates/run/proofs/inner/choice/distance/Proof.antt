@@ -19,6 +19,9 @@ numerator-requires c κs = search needs
 owed-requires : tie.Need-owed-requires
 owed-requires c κs = search needs
 
+cast-den : tie.Need-cast-den
+cast-den c = search needs
+
 returns : tie.Need-returns
 returns c =
     let s = c .before .before .before .before .pre in
@@ -31,8 +34,8 @@ window-left-requires c κs = search needs
 sub-slots : tie.Need-sub-slots
 sub-slots c = omega (arith, c .before .window-left .ensures, window-low (c .before .before .before .before .pre))
 
-cast-t9 : tie.Need-cast-t9
-cast-t9 c = search needs
+cast-num : tie.Need-cast-num
+cast-num c = search needs
 
 returns-2 : tie.Need-returns-2
 returns-2 c =
@@ -48,8 +51,9 @@ distance-spec =
     (tie.spec
     numerator-requires
     owed-requires
+    cast-den
     returns
     window-left-requires
     sub-slots
-    cast-t9
+    cast-num
     returns-2)

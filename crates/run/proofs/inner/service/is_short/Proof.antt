@@ -1,5 +1,5 @@
 -- `is_short` meets its contract. Assumes nothing.
-use mathlib.Core.Path.{refl, sym, _∙_}
+use mathlib.Core.Path.{refl}
 use borrow.Author.Needs.{needs}
 use Rattle.run.specs.Place.{shortOf}
 use Rattle.run.proofs.inner.service.is_short.Statement.{statement}
@@ -13,11 +13,7 @@ lacks-requires c κs = search needs
 
 returns : tie.Need-returns
 unfolding shortOf
-returns c = simp (sym (c .before .before .window-ends .ensures) ∙ c .before .if1 .taken, c .lacks .ensures)
-
-returns-2 : tie.Need-returns-2
-unfolding shortOf
-returns-2 c = c .if1 .left ∙ simp (sym (c .before .window-ends .ensures) ∙ c .if1 .left)
+returns c = simp (c .before .window-ends .ensures, c .lacks .ensures)
 
 pub is-short-spec : {M : Type 1} → statement M
-is-short-spec = tie.close (tie.spec window-ends-requires lacks-requires returns returns-2)
+is-short-spec = tie.close (tie.spec window-ends-requires lacks-requires returns)

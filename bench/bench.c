@@ -4,7 +4,7 @@
      bench                  the whole table, as text, and as bench/speed.csv's lines on request (--csv FILE)
      bench --compare        one short round: only the outputs are compared
      bench --only WHO I     cell I run once by WHO (entry or plain), for an instruction counter
-     bench --admit N        N admissions of 16 jobs whose windows have the common cycle 16,777,215 */
+     bench --admit N        N admissions of the list of 16 jobs that divides most, as far as bench/worst.c found */
 #define _POSIX_C_SOURCE 200809L
 #include "filbertoss.h"
 #include "plain.h"
@@ -153,19 +153,20 @@ static void table(FILE *csv)
     printf("mean ratio %.2f, least %.2f, %d cells of %d slots, best of %d\n", sum / CELLS, least, CELLS, SLOTS, REPEATS);
 }
 
-/* Divisors of 16,777,215 as periods, so that all 16 remainders are taken and none is refused by row 8. */
+/* By `worst 43`: 76 divisions. Admitted, so that no row ends it early. */
 static void admit(int times)
 {
-    static const uint16_t periods[16] = {4095, 241, 1365, 819, 585, 455, 315, 273, 221, 119, 105, 85, 63, 51, 39, 35};
+    static const uint16_t t[16] = {6, 10, 19, 20, 9, 6, 5, 1, 12, 90, 5, 532, 3, 15, 3, 2};
+    static const uint8_t k[16] = {1, 1, 1, 1, 35, 1, 5, 228, 1, 1, 1, 1, 42, 5, 131, 38};
     uint8_t bytes[96];
     for (size_t i = 0; i < 16; i++) {
         uint8_t *b = bytes + 6 * i;
         b[0] = 1;
         b[1] = 0;
-        b[2] = (uint8_t)(periods[i] & 255);
-        b[3] = (uint8_t)(periods[i] >> 8);
+        b[2] = (uint8_t)(t[i] & 255);
+        b[3] = (uint8_t)(t[i] >> 8);
         b[4] = 1;
-        b[5] = i == 1 ? 17 : 1;
+        b[5] = k[i];
     }
     for (int i = 0; i < times; i++) {
         uint32_t answer = filbertoss_admit(bytes, sizeof bytes, 0);

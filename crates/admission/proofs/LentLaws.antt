@@ -13,8 +13,9 @@ use borrow.Author.Tests.{ltb-true, ltb-false}
 use Rattle.job.specs.declared.record.Job.{Job}
 use Rattle.job.specs.Limit.{countMost}
 use Rattle.job.specs.Check.{jobAt}
+use Rattle.job.specs.Empty.{emptyList}
 use Rattle.job.proofs.TestLaws.{both}
-use Rattle.admission.specs.Lent.{emptyList, putJob, gatherUpto}
+use Rattle.admission.specs.Lent.{putJob, gatherUpto}
 
 pub gather-none : (xs : List Job) → emptyList (length xs) ≡ gatherUpto xs 0
 unfolding gatherUpto

@@ -1,16 +1,14 @@
 -- 'The admission check reads a lent list of job records, of any length, without changing it.'
 use Prim.Native.Nat.{ℕ, zero, suc, min}
 use mathlib.Core.List.{List}
-use lib.ListN.{length, set, replicate}
+use lib.ListN.{length, set}
 use Rattle.job.specs.declared.record.Job.{Job}
 use Rattle.job.specs.declared.list.JobList.{JobList}
 use Rattle.job.specs.Limit.{countMost}
 use Rattle.job.specs.Told.{Told}
-use Rattle.job.specs.Check.{noJob, jobAt}
+use Rattle.job.specs.Check.{jobAt}
+use Rattle.job.specs.Empty.{emptyList}
 use Rattle.admission.specs.Verdict.{verdictTold}
-
-abbrev pub emptyList : ℕ → JobList
-emptyList n = record { jobs = replicate countMost noJob; count = n }
 
 abbrev pub putJob : JobList → ℕ → Job → JobList
 putJob l i j = record { jobs = set (l .jobs) i j; count = l .count }

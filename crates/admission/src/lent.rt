@@ -5,24 +5,11 @@ ghost use lib.ListN.{take};
 ghost use Prim.Native.Nat.{_<_, _≤_};
 ghost use Rattle.job.specs.Limit.{countMost};
 ghost use Rattle.admission.specs.Answer.{toldAdmission};
-ghost use Rattle.admission.specs.Lent.{emptyList, putJob, listOf, admitOf};
+ghost use Rattle.admission.specs.Lent.{putJob, listOf, admitOf};
 use crate::answer::Admission;
 use crate::decide::verdict;
 use job::Job;
 use job::JobList;
-
-// A list of `count` jobs before any of them is put.
-fn empty(count: usize) -> JobList
-    ensures { λ r. ⌜ r ≡ emptyList count ⌝ }
-{
-    let jobs = [Job {
-        c: 0,
-        t: 0,
-        m: 0,
-        k: 0,
-    }; 16];
-    JobList { jobs, count }
-}
 
 fn put(list: JobList, at: usize, job: Job) -> JobList
     requires { ⌜ at < countMost ⌝ }
@@ -38,7 +25,7 @@ fn gather(jobs: &[Job]) -> JobList
     ensures { λ r. ⌜ r ≡ listOf (now (jobs .entry)) ⌝ }
 {
     let count = jobs.len();
-    let mut list = empty(count);
+    let mut list = JobList::empty(count);
     let mut at: usize = 0;
     while (at < count) & (at < JobList::COUNT_MOST) {
         list = put(list, at, jobs[at]);

@@ -1,20 +1,14 @@
-// The runs A to G of document 01, worked by the board: each slot's choice, first tags and short
-// windows as sets, and the totals.
+// The runs A to G of document 01, worked by the board from lists by value: a line a slot, and the
+// totals.
 use job::Job;
 use job::JobList;
 use libc::STDOUT_FILENO;
-use run::Choice;
 use run::Setting;
-use run::Slot;
 use run::State;
-use run::StepAnswer;
+use run::Totals;
 
 fn print(text: &[u8]) {
     io::write_all(STDOUT_FILENO, text);
-}
-
-fn print_number(number: u64) {
-    io::print_decimal(STDOUT_FILENO, number);
 }
 
 // Two jobs in the document's order, C T m k.
@@ -31,41 +25,19 @@ fn job(c: u32, t: u32, m: u32, k: u32) -> Job {
     Job { c, t, m, k }
 }
 
-fn print_slot(slot: Slot) {
-    let choice = slot.choice;
-    print(b" ");
-    match choice {
-        Choice::Given(at) => print_number(at as u64),
-        Choice::Idle => print(b"-"),
-    }
-    print(b" tags ");
-    print_number(slot.tags as u64);
-    print(b" shorts ");
-    print_number(slot.shorts as u64);
-    print(b"\n");
-}
-
-fn print_totals(state: State) {
-    print(b"given ");
-    print_number(state.totals.given as u64);
-    print(b" idle ");
-    print_number(state.totals.idle as u64);
-    print(b" tagged ");
-    print_number(state.totals.tags);
-    print(b" short ");
-    print_number(state.totals.shorts);
-    print(b"\n");
+fn print_totals(totals: Totals) {
+    let mut line = [0u8; 192];
+    let n = lines::totals_line(&mut line, totals);
+    print(&line[..n]);
 }
 
 // One slot, printed; the state after it.
 fn print_step(state: State) -> State {
-    print_number(state.clock as u64);
     let stepped = run::step(state);
     let answer = stepped.answer;
-    match answer {
-        StepAnswer::Done(slot) => print_slot(slot),
-        StepAnswer::Refused(_) => print(b" refused\n"),
-    }
+    let mut line = [0u8; 192];
+    let n = lines::answer_line(&mut line, state.clock, answer);
+    print(&line[..n]);
     stepped.state
 }
 
@@ -80,7 +52,7 @@ fn print_run(name: &[u8], list: JobList, order: u32, model: u32, slots: u32) {
         state = next;
         n += 1;
     }
-    print_totals(state);
+    print_totals(state.totals);
 }
 
 fn main() {

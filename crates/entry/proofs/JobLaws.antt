@@ -5,12 +5,13 @@ use Prim.Native.Nat.{ℕ, zero, suc, _+_, _/_, _≤_, _<_, min}
 use native.Mathlib.Numerals.{add-one}
 use native.Mathlib.Decide.{ℕ-discrete}
 use native.Mathlib.Omega.{arith}
-use lib.ListN.{length, set, length-set, replicate}
+use lib.ListN.{length, set, length-set}
 use lib.Seq.{getD-set-same, getD-set-other}
 use Rattle.job.specs.declared.record.Job.{Job}
 use Rattle.job.specs.declared.list.JobList.{JobList}
 use Rattle.job.specs.Limit.{countMost}
 use Rattle.job.specs.Check.{noJob, jobAt}
+use Rattle.job.specs.Empty.{emptyList}
 use Rattle.entry.specs.JobBytes.{jobFrom, jobsUpto}
 use Rattle.entry.specs.Meaning.{JobsCounted, JobsRead}
 
@@ -19,7 +20,7 @@ abbrev pub readUpto : List ℕ → ℕ → JobList
 readUpto bytes n = record { jobs = jobsUpto bytes n; count = length bytes / 6 }
 
 module _ (bytes : List ℕ) where
-  pub none-read : record { jobs = replicate 16 noJob; count = length bytes / 6 } ≡ readUpto bytes 0
+  pub none-read : emptyList (length bytes / 6) ≡ readUpto bytes 0
   unfolding jobsUpto
   none-read = refl
 

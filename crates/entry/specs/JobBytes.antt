@@ -25,7 +25,7 @@ jobFrom bytes i =
 
 -- the first n jobs in their records
 unfoldable pub jobsUpto : List ℕ → ℕ → List Job
-jobsUpto bytes zero = replicate 16 noJob
+jobsUpto bytes zero = replicate countMost noJob
 jobsUpto bytes (suc n) = set (jobsUpto bytes n) n (jobFrom bytes n)
 
 abbrev pub listFrom : List ℕ → JobList

@@ -37,17 +37,8 @@ fn job_from(bytes: &[u8], number: usize) -> Job
 pub fn list_from(bytes: &[u8]) -> JobList
     ensures { λ r. ⌜ r ≡ listFrom (now (bytes .entry)) ⌝ }
 {
-    let none = Job {
-        c: 0,
-        t: 0,
-        m: 0,
-        k: 0,
-    };
     let count = bytes.len() / 6;
-    let mut list = JobList {
-        jobs: [none; 16],
-        count,
-    };
+    let mut list = JobList::empty(count);
     let mut at: usize = 0;
     while (at < count) & (at < JobList::COUNT_MOST) {
         let job = job_from(bytes, at);

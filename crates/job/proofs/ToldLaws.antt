@@ -46,47 +46,35 @@ rowBack t =
     (cond (eqb n 15) OrderOrModel
     (cond (eqb n 16) SlotCount SheetTooLong)))))))))))))))
 
-pub row-back : (r : Refusal) → rowBack (told r) ≡ r
+-- by the rows: the inverse gives the refusal back, and its number is not 0
+row-by-row : (r : Refusal) → (rowBack (told r) ≡ r) × (eqb (told r .number) 0 ≡ false)
 unfolding rowBack
-row-back NoJobs = refl
-row-back TooManyJobs = refl
-row-back (Period j) = refl
-row-back (Service j) = refl
-row-back (Window j) = refl
-row-back (Share j) = refl
-row-back OriginalModel = refl
-row-back CycleTooLong = refl
-row-back (Overload h l) = refl
-row-back StateOutOfRange = refl
-row-back ClockAtLimit = refl
-row-back BufferTooShort = refl
-row-back (SheetForm p) = refl
-row-back JobBytes = refl
-row-back OrderOrModel = refl
-row-back SlotCount = refl
-row-back SheetTooLong = refl
+row-by-row NoJobs = (refl, refl)
+row-by-row TooManyJobs = (refl, refl)
+row-by-row (Period j) = (refl, refl)
+row-by-row (Service j) = (refl, refl)
+row-by-row (Window j) = (refl, refl)
+row-by-row (Share j) = (refl, refl)
+row-by-row OriginalModel = (refl, refl)
+row-by-row CycleTooLong = (refl, refl)
+row-by-row (Overload h l) = (refl, refl)
+row-by-row StateOutOfRange = (refl, refl)
+row-by-row ClockAtLimit = (refl, refl)
+row-by-row BufferTooShort = (refl, refl)
+row-by-row (SheetForm p) = (refl, refl)
+row-by-row JobBytes = (refl, refl)
+row-by-row OrderOrModel = (refl, refl)
+row-by-row SlotCount = (refl, refl)
+row-by-row SheetTooLong = (refl, refl)
+
+pub row-back : (r : Refusal) → rowBack (told r) ≡ r
+row-back r = row-by-row r .0
+
+pub told-refuses : (r : Refusal) → eqb (told r .number) 0 ≡ false
+told-refuses r = row-by-row r .1
 
 pub refusal-one-to-one : RefusalOneToOne
 refusal-one-to-one = one-to-one told rowBack row-back
-
-pub told-refuses : (r : Refusal) → eqb (told r .number) 0 ≡ false
-told-refuses NoJobs = refl
-told-refuses TooManyJobs = refl
-told-refuses (Period j) = refl
-told-refuses (Service j) = refl
-told-refuses (Window j) = refl
-told-refuses (Share j) = refl
-told-refuses OriginalModel = refl
-told-refuses CycleTooLong = refl
-told-refuses (Overload h l) = refl
-told-refuses StateOutOfRange = refl
-told-refuses ClockAtLimit = refl
-told-refuses BufferTooShort = refl
-told-refuses (SheetForm p) = refl
-told-refuses JobBytes = refl
-told-refuses OrderOrModel = refl
-told-refuses SlotCount = refl
-told-refuses SheetTooLong = refl
 
 checkedBack : Told → Checked
 checkedBack t = cond (eqb (t .number) 0) Passed (Refused (rowBack t))

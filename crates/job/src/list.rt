@@ -1,6 +1,7 @@
 // A list of jobs by value: 16 records and a count. Records at and past the count are never read.
 ghost use mathlib.Core.Path.{_≡_};
 ghost use Rattle.job.specs.Check.{listTold};
+ghost use Rattle.job.specs.Empty.{emptyList};
 ghost use Rattle.job.specs.Told.{toldChecked};
 use crate::record::Job;
 use crate::refusal::Checked;
@@ -14,6 +15,16 @@ pub struct JobList {
 impl JobList {
     // 'jobs: 1 to 16'
     pub const COUNT_MOST: usize = 16;
+
+    // A list of `count` jobs before any of them is put.
+    pub fn empty(count: usize) -> JobList
+        ensures { λ r. ⌜ r ≡ emptyList count ⌝ }
+    {
+        JobList {
+            jobs: [Job::none(); 16],
+            count,
+        }
+    }
 
     // Rows 1, 2, then 3 to 6 for the lowest job at fault.
     pub fn check(self) -> Checked

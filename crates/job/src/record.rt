@@ -1,6 +1,6 @@
 // One job: C slots for an instance, T slots in a period, m instances in every k periods.
 ghost use mathlib.Core.Path.{_≡_};
-ghost use Rattle.job.specs.Check.{allowed, jobTold};
+ghost use Rattle.job.specs.Check.{noJob, allowed, jobTold};
 ghost use Rattle.job.specs.Told.{toldChecked};
 use crate::refusal::Checked;
 use crate::refusal::Refusal;
@@ -25,6 +25,18 @@ impl Job {
     pub const RELAXED: u32 = 0;
 
     pub const ORIGINAL: u32 = 1;
+
+    // What stands where no job is: all zeros.
+    pub fn none() -> Job
+        ensures { λ r. ⌜ r ≡ noJob ⌝ }
+    {
+        Job {
+            c: 0,
+            t: 0,
+            m: 0,
+            k: 0,
+        }
+    }
 
     // The job at number `at` of a list, by rows 3 to 6: T before C before k before m.
     pub fn check(self, at: usize) -> Checked

@@ -3,4 +3,5 @@ pub mod Parts
 pub mod Slot
 pub mod Summary
 pub mod Refused
+pub mod Answer
 pub mod Meaning

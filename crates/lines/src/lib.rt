@@ -1,10 +1,12 @@
 // The lines that `slots` prints, each written by one function into a lent buffer that any of them
 // fits.
+mod answer;
 mod parts;
 mod refused;
 mod slot;
 mod summary;
 
+pub use answer::answer_line;
 pub use refused::refusal_line;
 pub use slot::slot_line;
 pub use summary::admission_line;

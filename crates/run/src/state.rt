@@ -83,12 +83,7 @@ fn blank_place() -> Place
     ensures { λ r. ⌜ r ≡ blank ⌝ }
 {
     Place {
-        job: Job {
-            c: 0,
-            t: 0,
-            m: 0,
-            k: 0,
-        },
+        job: Job::none(),
         at: Progress {
             e: 0,
             p: 0,

@@ -3,9 +3,9 @@ use Prim.Native.Nat.{ℕ}
 use mathlib.Core.Bool.{Bool, _||_, cond}
 use mathlib.Core.List.{List, []}
 use lib.Dec.{ltb, eqb}
-use lib.ListN.{replicate}
 use Rattle.job.specs.Told.{Told, row}
-use Rattle.job.specs.Check.{noJob, listTold}
+use Rattle.job.specs.Check.{listTold}
+use Rattle.job.specs.Empty.{emptyList}
 use Rattle.sheet.specs.declared.reading.Sheet.{Sheet}
 
 abbrev pub bytesMost : ℕ
@@ -19,7 +19,7 @@ blankSheet =
     record {
       setting = record { order = 0; model = 0 };
       slots = 0;
-      list = record { jobs = replicate 16 noJob; count = 0 };
+      list = emptyList 0;
     }
 
 -- '16: sheet's slot count 0 or above 4,096'

@@ -137,17 +137,11 @@ impl Reader {
     pub fn start() -> Reader
         ensures { λ r. ⌜ r ≡ startReader ⌝ }
     {
-        let job = Job {
-            c: 0,
-            t: 0,
-            m: 0,
-            k: 0,
-        };
         Reader {
             field: 0,
             digits: 0,
             value: 0,
-            job,
+            job: Job::none(),
             sheet: Sheet::blank(),
         }
     }

@@ -5,7 +5,6 @@ ghost use Rattle.sheet.specs.Sheet.{blankSheet, sheetTold};
 ghost use Rattle.sheet.specs.Answer.{readTold, readSheet};
 use crate::reader::Reader;
 use job::Checked;
-use job::Job;
 use job::JobList;
 use job::Refusal;
 use run::Setting;
@@ -31,19 +30,10 @@ impl Sheet {
     pub fn blank() -> Sheet
         ensures { λ r. ⌜ r ≡ blankSheet ⌝ }
     {
-        let none = Job {
-            c: 0,
-            t: 0,
-            m: 0,
-            k: 0,
-        };
         Sheet {
             setting: Setting { order: 0, model: 0 },
             slots: 0,
-            list: JobList {
-                jobs: [none; 16],
-                count: 0,
-            },
+            list: JobList::empty(0),
         }
     }
 }

@@ -3,12 +3,10 @@
 ghost use mathlib.Core.Path.{_≡_};
 ghost use Prim.Native.Nat.{_≤_};
 ghost use lib.ListN.{length};
-ghost use Rattle.lines.specs.Parts.{Fills};
 use job::Checked;
 use libc::STDIN_FILENO;
 use libc::STDOUT_FILENO;
 use run::State;
-use run::StepAnswer;
 use sheet::Sheet;
 
 // Puts a line into the large buffer, after what is in it; where there is no room, that is written
@@ -24,16 +22,6 @@ fn put_line(out: &mut [u8], at: usize, line: &[u8]) -> usize
         return text::inner::put_text(out, 0, line);
     }
     text::inner::put_text(out, at, line)
-}
-
-// The line of one slot.
-fn answer_line(line: &mut [u8; 192], number: u32, answer: StepAnswer) -> usize
-    ensures { λ r. ⌜ Fills r (now (line .exit)) ⌝ }
-{
-    match answer {
-        StepAnswer::Done(slot) => lines::slot_line(line, number, slot),
-        StepAnswer::Refused(refusal) => lines::refusal_line(line, refusal),
-    }
 }
 
 // How far the buffer is filled, and the state after a slot.
@@ -52,7 +40,7 @@ fn put_step(out: &mut [u8], at: usize, state: State) -> Printed
     let answer = stepped.answer;
     let next = stepped.state;
     let mut line = [0u8; 192];
-    let n = answer_line(&mut line, state.clock, answer);
+    let n = lines::answer_line(&mut line, state.clock, answer);
     let end = put_line(out, at, &line[..n]);
     Printed {
         at: end,

@@ -48,16 +48,17 @@ use Rattle.job.specs.declared.record.Job.{Job}
 use Rattle.job.specs.declared.list.JobList.{JobList}
 use Rattle.job.specs.Limit.{countMost}
 use Rattle.job.specs.Check.{noJob, jobAt}
-use Rattle.admission.specs.Lent.{emptyList, putJob, gatherUpto, listOf}
+use Rattle.job.specs.Empty.{emptyList}
+use Rattle.admission.specs.Lent.{putJob, gatherUpto, listOf}
 use Rattle.admission.proofs.LentLaws.{gather-none, gather-more, goesOn, goes-on, ends, Fewer, fewer-ends}
 use Rattle.job.proofs.record.Job as J
 use Rattle.job.proofs.record.Job.Laws as J′
 use Rattle.job.proofs.list.JobList as L
 use Rattle.job.proofs.list.JobList.Laws as L′
-use Rattle.admission.proofs.lent.empty as empty
-use Rattle.admission.proofs.lent.empty.Symbol as empty-def
-use Rattle.admission.proofs.lent.empty.Symbol.{name as #empty}
-use Rattle.admission.proofs.lent.empty.Met as empty-thm
+use Rattle.job.proofs.list.JobList.empty as empty
+use Rattle.job.proofs.list.JobList.empty.Symbol as empty-def
+use Rattle.job.proofs.list.JobList.empty.Symbol.{name as #empty}
+use Rattle.job.proofs.list.JobList.empty.Met as empty-thm
 use Rattle.admission.proofs.lent.put as put
 use Rattle.admission.proofs.lent.put.Symbol as put-def
 use Rattle.admission.proofs.lent.put.Symbol.{name as #put}
@@ -312,5 +313,5 @@ gather-spec 𝓤 H 𝓜 𝓖 𝓡 =
     entered 𝓤 H (tripleOf 𝓤 H (𝓖 .A) gather.signature (gather.spec 𝓤 H (𝓖 .A) (𝓜 .mem) (𝓡 .run)))
     (tables 𝓤 H 𝓜 𝓡 code.env .C) (tables 𝓤 H 𝓜 𝓡 code.env .Λ) #gather code.function (code.unfolded 𝓤 H 𝓜 𝓡)
     (gather-meets 𝓤 H (𝓖 .A) (givenOf 𝓤 H 𝓜 𝓖) (𝓜 .mem) (𝓡 .run) (tablesOf 𝓤 H 𝓜 (tables 𝓤 H 𝓜 𝓡 code.env))
-    (cited 𝓤 H (Empty 𝓤 H (𝓖 .A) (𝓜 .mem) (𝓡 .run)) 𝓜 𝓡 code.env #empty empty-def.routine code.calls-admission·lent·empty (empty-thm.met 𝓤 H 𝓜 𝓖 𝓡))
+    (cited 𝓤 H (Empty 𝓤 H (𝓖 .A) (𝓜 .mem) (𝓡 .run)) 𝓜 𝓡 code.env #empty empty-def.routine code.calls-job·list·JobList·empty (empty-thm.met 𝓤 H 𝓜 𝓖 𝓡))
     (cited 𝓤 H (Put 𝓤 H (𝓖 .A) (𝓜 .mem) (𝓡 .run)) 𝓜 𝓡 code.env #put put-def.routine code.calls-admission·lent·put (put-thm.met 𝓤 H 𝓜 𝓖 𝓡)))

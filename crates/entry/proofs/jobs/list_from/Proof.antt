@@ -1,8 +1,9 @@
 -- `list_from` meets its contract. The loop's invariant: the jobs before `at` are read. Assumes nothing.
-use mathlib.Core.Path.{_≡_}
+use mathlib.Core.Path.{_≡_, _∙_}
 use Prim.Native.Nat.{_-_, _/_, _≤_}
 use native.Mathlib.Omega.{arith}
 use lib.ListN.{length}
+use borrow.Author.Needs.{needs}
 use Rattle.run.proofs.FreshLaws.{below-first, below-second, at-the-end}
 use Rattle.entry.proofs.JobLaws.{readUpto, none-read, one-more-read}
 use Rattle.entry.proofs.jobs.list_from.Statement.{statement}
@@ -14,8 +15,11 @@ Inv-loop bytes count list₀ at₀ list at = (at ≤ length bytes / 6) × (at �
 abbrev μ-loop : tie.MeasureT-loop
 μ-loop bytes count list₀ at₀ list at = 16 - at
 
+empty-requires : tie.Need-empty-requires Inv-loop μ-loop
+empty-requires c κs = search needs
+
 loop-holds : tie.Need-loop-holds Inv-loop μ-loop
-loop-holds c = (omega arith, omega arith, none-read (c .before .args .bytes .now))
+loop-holds c = (omega arith, omega arith, c .empty .ensures ∙ none-read (c .before .before .args .bytes .now))
 
 job-from-requires : tie.Need-job-from-requires Inv-loop μ-loop
 job-from-requires c κs = omega (arith, below-first)
@@ -37,12 +41,12 @@ loop-again c =
     let loop = c .before .before .loop in (
       omega (arith, below-first),
       omega (arith, below-second),
-      one-more-read (c .before .before .before .before .args .bytes .now) (loop .at) (loop .inv .2) (c .job-from .ensures),
+      one-more-read (c .before .before .before .before .before .args .bytes .now) (loop .at) (loop .inv .2) (c .job-from .ensures),
     )
 
 returns : tie.Need-returns Inv-loop μ-loop
 returns c =
-    let count = length (c .before .before .before .args .bytes .now) / 6 in
+    let count = length (c .before .before .before .before .args .bytes .now) / 6 in
     let loop = c .before .loop in
     rw (at-the-end (loop .at) count 16 (c .loop-test .left) (loop .inv .0) (loop .inv .1)) at (loop .inv .2)
 
@@ -52,6 +56,7 @@ list-from-spec =
     (tie.spec
     Inv-loop
     μ-loop
+    empty-requires
     loop-holds
     job-from-requires
     mul-job

@@ -2,6 +2,7 @@
 ghost use mathlib.Core.Path.{_≡_};
 ghost use Rattle.entry.specs.Entry.{admitTold};
 use crate::jobs::list_from;
+use job::Refusal;
 
 // Tests 14, then those of admission. Returns 0 or the refusal's number.
 #[no_mangle]
@@ -9,7 +10,7 @@ pub extern "C" fn filbertoss_admit(jobs: &[u8], model: u32) -> u32
     ensures { λ r. ⌜ r ≡ admitTold (now (jobs .entry)) model .number ⌝ }
 {
     if jobs.len() % 6 != 0 {
-        return 14;
+        return Refusal::JobBytes.number();
     }
     admission::verdict(list_from(jobs), model).number()
 }

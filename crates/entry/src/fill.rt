@@ -3,6 +3,7 @@ ghost use mathlib.Core.Path.{_≡_};
 ghost use lib.ListN.{length};
 ghost use Rattle.entry.specs.Entry.{fillTold, fillBytes};
 use crate::jobs::list_from;
+use job::Refusal;
 use run::Setting;
 
 // Tests 14, 15, 1 to 6, 12, 11. Returns 0 or the refusal's number; refused, it changes no byte.
@@ -19,7 +20,7 @@ pub extern "C" fn filbertoss_fill(
     ensures { λ r. ⌜ now (buf .exit) ≡ fillBytes (now (jobs .entry)) (record { order = order; model = model }) (now (buf .entry)) offset n ⌝ }
 {
     if jobs.len() % 6 != 0 {
-        return 14;
+        return Refusal::JobBytes.number();
     }
     let started = run::start(list_from(jobs), Setting { order, model });
     let start_answer = started.answer;

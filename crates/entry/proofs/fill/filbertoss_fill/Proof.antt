@@ -18,19 +18,22 @@ settingOf : (c : tie.Start) → Setting
 settingOf c = record { order = c .args .order; model = c .args .model }
 
 started-number :
-    (c : tie.After-number)
+    (c : tie.After-number2)
     → let start = c .before .before .before .before .before .before in
-    c .number .result ≡ startTold (listFrom (start .args .jobs .now)) (settingOf start) .number
+    c .number2 .result ≡ startTold (listFrom (start .args .jobs .now)) (settingOf start) .number
 unfolding settingOf
-started-number c = cc (c .number .ensures, c .before .start .ensures .0, c .before .before .list-from .ensures)
+started-number c = cc (c .number2 .ensures, c .before .start .ensures .0, c .before .before .list-from .ensures)
+
+number-requires : tie.Need-number-requires
+number-requires c κs = search needs
 
 returns : tie.Need-returns
 unfolding settingOf
 returns c =
-    let start = c .before .before .before in
+    let start = c .before .before .before .before in
     let args = start .args in
-    let told = fill-broken (args .jobs .now) (settingOf start) (length (args .buf .now)) (args .offset) (args .n) (c .if1 .taken) in
-    (ap (λ (t : Told). t .number) (sym told), bytes-stay _ _ _ _ _ told refl)
+    let told = fill-broken (args .jobs .now) (settingOf start) (length (args .buf .now)) (args .offset) (args .n) (c .before .if1 .taken) in
+    (c .number .ensures ∙ ap (λ (t : Told). t .number) (sym told), bytes-stay _ _ _ _ _ told refl)
 
 list-from-requires : tie.Need-list-from-requires
 list-from-requires c κs = search needs
@@ -38,8 +41,8 @@ list-from-requires c κs = search needs
 start-requires : tie.Need-start-requires
 start-requires c κs = search needs
 
-number-requires : tie.Need-number-requires
-number-requires c κs = search needs
+number-requires-2 : tie.Need-number-requires-2
+number-requires-2 c κs = search needs
 
 returns-2 : tie.Need-returns-2
 unfolding settingOf
@@ -47,15 +50,15 @@ returns-2 c =
     let start = c .before .before .before .before .before .before .before in
     let args = start .args in
     let number = started-number (c .before) in
-    let refused = ap (λ (x : ℕ). eqb x 0) (sym number) ∙ ne-eqb (c .before .number .result) 0 (c .if2 .taken) in
+    let refused = ap (λ (x : ℕ). eqb x 0) (sym number) ∙ ne-eqb (c .before .number2 .result) 0 (c .if2 .taken) in
     let told = fill-starts (args .jobs .now) (settingOf start) (length (args .buf .now)) (args .offset) (args .n) (c .before .before .before .before .if1 .left) refused in
     (number ∙ ap (λ (t : Told). t .number) (sym told), bytes-stay _ _ _ _ _ told refused)
 
 write-requires : tie.Need-write-requires
 write-requires c κs = search needs
 
-number-requires-2 : tie.Need-number-requires-2
-number-requires-2 c κs = search needs
+number-requires-3 : tie.Need-number-requires-3
+number-requires-3 c κs = search needs
 
 same-length : tie.Need-same-length
 same-length c = search needs
@@ -72,18 +75,19 @@ returns-3 c =
     let list = writes .before .before .before .list-from .ensures in
     let write = c .before .before .before .write .ensures in
     let on = writes-on (args .jobs .now) (settingOf start) (args .buf .now) (args .offset) (args .n) whole passes in
-    (cc (c .number2 .ensures, write .0, state, list, on .told-is), cc (write .1 .1, state, list, on .bytes-are))
+    (cc (c .number3 .ensures, write .0, state, list, on .told-is), cc (write .1 .1, state, list, on .bytes-are))
 
 pub filbertoss-fill-spec : {M : Type 1} → statement M
 filbertoss-fill-spec =
     tie.close
     (tie.spec
+    number-requires
     returns
     list-from-requires
     start-requires
-    number-requires
+    number-requires-2
     returns-2
     write-requires
-    number-requires-2
+    number-requires-3
     same-length
     returns-3)

@@ -3,7 +3,7 @@
 use job::Job;
 use job::JobList;
 use libc::STDOUT_FILENO;
-use run::Setting;
+use place::Setting;
 use run::State;
 use run::Totals;
 

@@ -8,13 +8,13 @@ use lib.ListN.{length}
 use borrow.Author.Tests.{eq-eqb, ne-eqb}
 use Rattle.job.specs.Told.{Told, row}
 use Rattle.job.specs.Check.{otherwise}
-use Rattle.job.proofs.CheckLaws.{otherwise-refused}
-use Rattle.run.specs.declared.setting.Setting.{Setting}
+use Rattle.place.specs.declared.setting.Setting.{Setting}
 use Rattle.run.specs.Step.{startTold, startState}
 use Rattle.timetable.specs.Table.{writeTold, writeBytes}
 use Rattle.entry.specs.JobBytes.{listFrom}
 use Rattle.entry.specs.Entry.{wholeJobs, admitTold, fillTold, fillBytes}
 use Rattle.entry.specs.Meaning.{Whole, WritesOn, AdmitJudges, FillStarts, FillWrites, FillKeeps}
+use Rattle.job.proofs.CheckLaws.{otherwise-refused}
 
 -- the test of row 14
 module _ (jobs : List ℕ) (t : Told) where

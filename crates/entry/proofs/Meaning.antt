@@ -14,22 +14,22 @@ use Rattle.job.specs.Limit.{original, cycleMost}
 use Rattle.job.specs.Told.{Told, passed}
 use Rattle.job.specs.Check.{otherwise, listTold}
 use Rattle.job.specs.Sound.{SoundList, FaultOf, t-fault, c-fault, k-fault, m-fault}
-use Rattle.job.proofs.Meaning.{ListView, no-jobs, many-jobs, sound-list, faulty-list, list-view, passes-exactly, row-one-exactly, row-two-exactly, job-rows-exactly}
 use Rattle.admission.specs.Cycle.{cycleOf}
 use Rattle.admission.specs.Load.{loadOf}
 use Rattle.admission.specs.Verdict.{judgedTold, verdictTold}
-use Rattle.run.specs.declared.setting.Setting.{Setting}
+use Rattle.place.specs.declared.setting.Setting.{Setting}
+use Rattle.place.specs.Setting.{settingAllowed}
 use Rattle.run.specs.declared.state.State.{State}
-use Rattle.run.specs.Setting.{settingAllowed}
 use Rattle.run.specs.State.{clockMost}
 use Rattle.run.specs.Range.{stateInRange}
 use Rattle.run.specs.Step.{startTold, startState}
-use Rattle.run.proofs.RangeLaws.{range-exactly}
-use Rattle.run.proofs.StartLaws.{start-checks, not-started, state-passed, start-sound}
 use Rattle.timetable.specs.Table.{writeTold}
-use Rattle.timetable.proofs.WriteLaws.{refused-twelve, refused-eleven, writes-on}
 use Rattle.entry.specs.JobBytes.{listFrom}
 use Rattle.entry.specs.Meaning.{Whole, fillNumber, Starts, AdmitRowFourteen, FillRowFourteen, FillRowFifteen, FillListRows, FillRowTwelve, FillRowEleven, FillPasses, FillNeverTen}
+use Rattle.job.proofs.Meaning.{ListView, no-jobs, many-jobs, sound-list, faulty-list, list-view, passes-exactly, row-one-exactly, row-two-exactly, job-rows-exactly}
+use Rattle.run.proofs.RangeLaws.{range-exactly}
+use Rattle.run.proofs.StartLaws.{start-checks, not-started, state-passed, start-sound}
+use Rattle.timetable.proofs.WriteLaws.{refused-twelve, refused-eleven, writes-on}
 use Rattle.entry.proofs.EntryLaws.{admit-broken, admit-judges, fill-broken, fill-starts, fill-writes}
 
 -- two equal answers have one number

@@ -7,7 +7,7 @@ use lib.ListN.{length}
 use Rattle.job.specs.Told.{Told, row}
 use Rattle.job.specs.Check.{otherwise}
 use Rattle.admission.specs.Verdict.{verdictTold}
-use Rattle.run.specs.declared.setting.Setting.{Setting}
+use Rattle.place.specs.declared.setting.Setting.{Setting}
 use Rattle.run.specs.Step.{startTold, startState}
 use Rattle.timetable.specs.Table.{writeTold, writeBytes}
 use Rattle.entry.specs.JobBytes.{listFrom}

@@ -11,8 +11,8 @@ use Rattle.job.specs.Told.{passed}
 use Rattle.job.specs.Check.{jobAt, listTold}
 use Rattle.job.specs.Sound.{SoundList}
 use Rattle.admission.specs.Verdict.{verdictTold}
-use Rattle.run.specs.declared.setting.Setting.{Setting}
-use Rattle.run.specs.Setting.{settingAllowed}
+use Rattle.place.specs.declared.setting.Setting.{Setting}
+use Rattle.place.specs.Setting.{settingAllowed}
 use Rattle.run.specs.State.{clockMost}
 use Rattle.run.specs.Step.{startTold, startState}
 use Rattle.timetable.specs.Table.{writeTold, writeBytes}

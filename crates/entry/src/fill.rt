@@ -4,7 +4,7 @@ ghost use lib.ListN.{length};
 ghost use Rattle.entry.specs.Entry.{fillTold, fillBytes};
 use crate::jobs::list_from;
 use job::Refusal;
-use run::Setting;
+use place::Setting;
 
 // Tests 14, 15, 1 to 6, 12, 11. Returns 0 or the refusal's number; refused, it changes no byte.
 #[no_mangle]

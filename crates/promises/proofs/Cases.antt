@@ -5,9 +5,10 @@ use Rattle.admission.specs.Divisor.{gcdIn, gcd}
 use Rattle.admission.specs.Cycle.{lcm, cycleUpto}
 use Rattle.admission.specs.Load.{loadUpto}
 use Rattle.admission.specs.Verdict.{judgedTold, verdictTold}
+use Rattle.place.specs.Place.{windowLeft, finishedOf, owedOf, eligibleOf, numeratorOf, overdueOf, firstTagged, servedOf, workedOf, windowEnds, shortOf, turnedOf, movedOf}
+use Rattle.place.specs.Choice.{distanceOf, nearerOf, betterOf}
 use Rattle.run.specs.State.{freshUpto}
-use Rattle.run.specs.Place.{windowLeft, finishedOf, owedOf, eligibleOf, numeratorOf, overdueOf, firstTagged, servedOf, workedOf, windowEnds, shortOf, turnedOf, movedOf}
-use Rattle.run.specs.Choice.{distanceOf, nearerOf, betterOf, heldUpto, chosenOf}
+use Rattle.run.specs.Choice.{heldUpto, chosenOf}
 use Rattle.run.specs.Slot.{choiceOf, placesUpto, maskUpto, countUpto, allMoved, turnOf}
 use Rattle.run.specs.Step.{startTold, startState}
 use Rattle.run.specs.Run.{afterSlots}

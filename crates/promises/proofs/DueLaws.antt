@@ -10,17 +10,17 @@ use borrow.Author.Tests.{eq-eqb}
 use Rattle.job.specs.declared.record.Job.{Job}
 use Rattle.job.specs.Limit.{relaxed}
 use Rattle.job.specs.Window.{windowOf}
-use Rattle.job.proofs.TestLaws.{clash}
 use Rattle.admission.specs.Load.{shareOf}
-use Rattle.run.specs.declared.place.Place.{Place}
+use Rattle.place.specs.declared.record.Place.{Place}
+use Rattle.place.specs.Setting.{orderW}
+use Rattle.place.specs.Place.{eligibleOf}
 use Rattle.run.specs.declared.state.State.{State}
-use Rattle.run.specs.Setting.{orderW}
-use Rattle.run.specs.Place.{eligibleOf}
 use Rattle.run.specs.Choice.{chosenOf}
 use Rattle.run.specs.Slot.{turnOf}
 use Rattle.run.specs.Sound.{SoundState}
 use Rattle.run.specs.Meaning.{at, IsEligible}
-use Rattle.run.proofs.PlaceLaws.{moved-job}
+use Rattle.job.proofs.TestLaws.{clash}
+use Rattle.place.proofs.PlaceLaws.{moved-job}
 use Rattle.run.proofs.ChoiceLaws.{ChoiceView, none-chosen, one-chosen, choice-view, given-exactly, window-order}
 use Rattle.run.proofs.KeepLaws.{turn-place}
 use Rattle.run.proofs.TurnLaws.{turn-count}

@@ -13,18 +13,19 @@ use Rattle.job.specs.Sound.{SoundList}
 use Rattle.job.specs.Window.{windowOf}
 use Rattle.admission.specs.Load.{shareOf, loadUpto, loadOf}
 use Rattle.admission.specs.Meaning.{CommonMultiple}
-use Rattle.run.specs.declared.setting.Setting.{Setting}
-use Rattle.run.specs.declared.place.Place.{Place}
+use Rattle.place.specs.declared.setting.Setting.{Setting}
+use Rattle.place.specs.declared.record.Place.{Place}
+use Rattle.place.specs.Setting.{orderW}
+use Rattle.place.specs.Opening.{opened}
 use Rattle.run.specs.declared.state.State.{State}
-use Rattle.run.specs.Setting.{orderW}
-use Rattle.run.specs.State.{clockMost, opened, freshOf}
+use Rattle.run.specs.State.{clockMost, freshOf}
 use Rattle.run.specs.Choice.{chosenOf}
 use Rattle.run.specs.Sound.{SoundState}
 use Rattle.run.specs.Run.{afterSlots}
 use Rattle.run.specs.Meaning.{at}
+use Rattle.promises.specs.DemandThree.{windowOrder}
 use Rattle.run.proofs.FreshLaws.{fresh-at, fresh-sound}
 use Rattle.run.proofs.RunLaws.{after-setting, after-count, after-sound}
-use Rattle.promises.specs.DemandThree.{windowOrder}
 use Rattle.promises.proofs.SumLaws.{sumUpto, sum-same, sum-bound}
 use Rattle.promises.proofs.AmountLaws.{by-share}
 use Rattle.promises.proofs.WorkLaws.{serviceOf, dueOf, missedOf, due-opened}

@@ -14,22 +14,22 @@ use Rattle.job.specs.declared.list.JobList.{JobList}
 use Rattle.job.specs.Check.{jobAt}
 use Rattle.job.specs.Sound.{SoundJob, SoundList}
 use Rattle.job.specs.Window.{windowOf}
-use Rattle.run.specs.declared.setting.Setting.{Setting}
-use Rattle.run.specs.declared.place.Place.{Place}
+use Rattle.place.specs.declared.setting.Setting.{Setting}
+use Rattle.place.specs.declared.record.Place.{Place}
+use Rattle.place.specs.Place.{windowEnds}
 use Rattle.run.specs.declared.state.State.{State}
 use Rattle.run.specs.State.{clockMost, freshOf}
-use Rattle.run.specs.Place.{windowEnds}
 use Rattle.run.specs.Sound.{SoundState}
 use Rattle.run.specs.Run.{afterSlots, choicesOf}
 use Rattle.run.specs.Bytes.{slotsOf}
 use Rattle.run.specs.History.{sinceWindow, periodsBegun, PlaceHistory}
 use Rattle.run.specs.Meaning.{at}
+use Rattle.promises.specs.DemandThree.{windowOrder}
 use Rattle.run.proofs.BytesLaws.{countIn-more}
 use Rattle.run.proofs.CycleLaws.{Tick, nothing-ends, period-ends, window-ends, tick}
 use Rattle.run.proofs.TurnLaws.{nextByte, byte-at, byte-fair}
 use Rattle.run.proofs.RunLaws.{choices-more, choices-add, choices-long}
 use Rattle.run.proofs.RunHistory.{history-holds}
-use Rattle.promises.specs.DemandThree.{windowOrder}
 use Rattle.promises.proofs.WindowLaws.{usedOf, used-most}
 use Rattle.promises.proofs.WorkLaws.{serviceOf, missedOf, missed-over}
 use Rattle.promises.proofs.OnTimeLaws.{runOf, run-model, run-listed, run-sound}

@@ -10,13 +10,13 @@ use Rattle.job.specs.declared.record.Job.{Job}
 use Rattle.job.specs.Limit.{relaxed}
 use Rattle.job.specs.Sound.{SoundJob}
 use Rattle.job.specs.Window.{windowOf}
+use Rattle.place.specs.declared.setting.Setting.{Setting}
+use Rattle.place.specs.declared.record.Place.{Place}
+use Rattle.place.specs.Opening.{opened}
+use Rattle.place.specs.Place.{windowLeft, eligibleOf, overdueOf, workedOf, windowEnds, movedOf}
+use Rattle.place.specs.Sound.{SoundPlace}
 use Rattle.job.proofs.TestLaws.{clash}
-use Rattle.run.specs.declared.setting.Setting.{Setting}
-use Rattle.run.specs.declared.place.Place.{Place}
-use Rattle.run.specs.State.{opened}
-use Rattle.run.specs.Place.{windowLeft, eligibleOf, overdueOf, workedOf, windowEnds, movedOf}
-use Rattle.run.specs.Sound.{SoundPlace}
-use Rattle.run.proofs.PlaceLaws.{eligible-relaxed}
+use Rattle.place.proofs.PlaceLaws.{eligible-relaxed}
 use Rattle.run.proofs.CounterLaws.{Served, worked, turned-on, turned-period, turned-window}
 
 -- 'k'T − e slots away': the slots until the window ends

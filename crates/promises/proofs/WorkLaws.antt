@@ -10,13 +10,13 @@ use Rattle.job.specs.declared.record.Job.{Job}
 use Rattle.job.specs.Limit.{relaxed}
 use Rattle.job.specs.Sound.{SoundJob}
 use Rattle.job.specs.Window.{windowOf}
+use Rattle.place.specs.declared.setting.Setting.{Setting}
+use Rattle.place.specs.declared.record.Place.{Place}
+use Rattle.place.specs.Opening.{opened}
+use Rattle.place.specs.Place.{finishedOf, owedOf, eligibleOf, workedOf, windowEnds, movedOf}
+use Rattle.place.specs.Sound.{SoundPlace}
 use Rattle.admission.proofs.CycleLaws.{window-positive}
-use Rattle.run.specs.declared.setting.Setting.{Setting}
-use Rattle.run.specs.declared.place.Place.{Place}
-use Rattle.run.specs.State.{opened}
-use Rattle.run.specs.Place.{finishedOf, owedOf, eligibleOf, workedOf, windowEnds, movedOf}
-use Rattle.run.specs.Sound.{SoundPlace}
-use Rattle.run.proofs.PlaceLaws.{eligible-relaxed}
+use Rattle.place.proofs.PlaceLaws.{eligible-relaxed}
 use Rattle.run.proofs.CounterLaws.{Served, worked}
 use Rattle.promises.proofs.AmountLaws.{amount, amount-in, amount-out, amount-shift, amount-more, amount-new, amount-last, amount-bound, lack-within-share}
 use Rattle.promises.proofs.WindowLaws.{leftOf, usedOf, Stays, Ends, opened-left, not-eligible, left-more, moved-view}

@@ -8,8 +8,8 @@ use Rattle.job.specs.declared.list.JobList.{JobList}
 use Rattle.job.specs.Limit.{relaxed, original}
 use Rattle.job.specs.Told.{Told, row}
 use Rattle.admission.specs.Verdict.{verdictTold}
+use Rattle.place.specs.Setting.{orderV, orderW}
 use Rattle.run.specs.declared.state.State.{State}
-use Rattle.run.specs.Setting.{orderV, orderW}
 use Rattle.run.specs.Slot.{turnOf}
 use Rattle.run.specs.Answer.{toldSlot}
 use Rattle.run.specs.Step.{startState}

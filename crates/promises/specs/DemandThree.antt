@@ -13,10 +13,10 @@ use Rattle.admission.specs.declared.answer.Admission.the-variants.{Admitted}
 use Rattle.admission.specs.Cycle.{cycleOf}
 use Rattle.admission.specs.Answer.{toldAdmission}
 use Rattle.admission.specs.Verdict.{verdictTold}
-use Rattle.run.specs.declared.setting.Setting.{Setting}
+use Rattle.place.specs.declared.setting.Setting.{Setting}
+use Rattle.place.specs.Setting.{orderW}
 use Rattle.run.specs.declared.state.State.{State}
 use Rattle.run.specs.declared.answer.Slot.{Slot}
-use Rattle.run.specs.Setting.{orderW}
 use Rattle.run.specs.State.{clockMost}
 use Rattle.run.specs.Answer.{toldSlot}
 use Rattle.run.specs.Step.{startState, stepTold, stepState}

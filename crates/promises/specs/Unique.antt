@@ -9,12 +9,13 @@ use Rattle.job.specs.declared.list.JobList.{JobList}
 use Rattle.job.specs.declared.refusal.Checked.{Checked}
 use Rattle.job.specs.Told.{toldChecked}
 use Rattle.job.specs.Check.{jobTold, listTold}
+use Rattle.text.specs.Written.{written}
 use Rattle.admission.specs.declared.answer.Admission.{Admission}
 use Rattle.admission.specs.Divisor.{GreatestDivisor}
 use Rattle.admission.specs.Answer.{toldAdmission}
 use Rattle.admission.specs.Verdict.{verdictTold}
 use Rattle.admission.specs.Lent.{admitOf}
-use Rattle.run.specs.declared.setting.Setting.{Setting}
+use Rattle.place.specs.declared.setting.Setting.{Setting}
 use Rattle.run.specs.declared.state.State.{State}
 use Rattle.run.specs.declared.answer.Started.{Started}
 use Rattle.run.specs.declared.answer.Stepped.{Stepped}
@@ -22,10 +23,9 @@ use Rattle.run.specs.Answer.{toldStep}
 use Rattle.run.specs.Step.{startTold, startState, stepTold, stepState}
 use Rattle.timetable.specs.declared.writer.Written.{Written}
 use Rattle.timetable.specs.Table.{writeTold, writeState, writeBytes}
-use Rattle.text.specs.Written.{written}
+use Rattle.entry.specs.Entry.{admitTold, fillTold, fillBytes}
 use Rattle.sheet.specs.declared.reading.ReadSheet.{ReadSheet}
 use Rattle.sheet.specs.Answer.{readTold, readSheet}
-use Rattle.entry.specs.Entry.{admitTold, fillTold, fillBytes}
 
 -- a promise about results of one input allows one result
 abbrev pub Unique : {A : Type 0} → (A → Type 0) → Type 0

@@ -3,29 +3,30 @@ use mathlib.Core.Path.{_≡_, refl, sym, ap, subst, _∙_}
 use mathlib.Core.Bool.{Bool, true, false, _&&_}
 use mathlib.Core.Logic.{_↔_}
 use mathlib.Core.List.{List}
-use Prim.Native.Nat.{ℕ, zero, suc, _-_, _*_, _≤_, _<_}
+use Prim.Native.Nat.{ℕ, zero, suc, _+_, _-_, _*_, _≤_, _<_}
 use native.Mathlib.Numerals.{add-one}
 use native.Mathlib.Omega.{arith}
 use lib.Dec.{eqb}
 use borrow.Author.Count.{below-none, below-more}
 use borrow.Author.Tests.{ltb-false, ne-eqb}
-use Rattle.job.proofs.TestLaws.{clash, both}
-use Rattle.run.specs.declared.setting.Setting.{Setting}
-use Rattle.run.specs.declared.place.Place.{Place}
+use Rattle.place.specs.declared.setting.Setting.{Setting}
+use Rattle.place.specs.declared.record.Place.{Place}
+use Rattle.place.specs.declared.inner.choice.Held.{Held}
+use Rattle.place.specs.Setting.{orderV, orderW, inOrderV}
+use Rattle.place.specs.Place.{windowLeft, eligibleOf}
+use Rattle.place.specs.Choice.{distanceOf, nearerOf, betterOf, nobody}
 use Rattle.run.specs.declared.state.State.{State}
 use Rattle.run.specs.declared.answer.Choice.{Choice}
 use Rattle.run.specs.declared.answer.Choice.the-variants.{Given, Idle}
-use Rattle.run.specs.declared.inner.choice.Held.{Held}
-use Rattle.run.specs.Setting.{orderV, orderW, inOrderV}
 use Rattle.run.specs.State.{placeAt}
-use Rattle.run.specs.Place.{windowLeft, eligibleOf}
-use Rattle.run.specs.Choice.{distanceOf, nearerOf, betterOf, nobody, heldUpto, chosenOf}
+use Rattle.run.specs.Choice.{heldUpto, chosenOf}
 use Rattle.run.specs.Slot.{choiceOf, turnOf}
 use Rattle.run.specs.Sound.{SoundState}
 use Rattle.run.specs.Meaning.{at, IsEligible, distance, Chosen, GivenExactly, IdleExactly}
-use Rattle.run.proofs.CondLaws.{by-test}
-use Rattle.run.proofs.PlaceLaws.{eligible-owed}
-use Rattle.run.proofs.DistanceLaws.{nearer-self, nearer-back, nearer-through, neither-nearer, same-nearer, nobody-farther}
+use Rattle.job.proofs.TestLaws.{clash, both}
+use Rattle.place.proofs.CondLaws.{by-test}
+use Rattle.place.proofs.PlaceLaws.{eligible-owed}
+use Rattle.place.proofs.DistanceLaws.{nearer-self, nearer-back, nearer-through, neither-nearer, same-nearer, nobody-farther}
 
 -- a place's distance
 
@@ -43,6 +44,13 @@ first-fails true b e f = absurd (clash e (f refl))
 first-fails false b e f = refl
 
 -- what is held of the first n places
+
+pub one-more-held :
+    (setting : Setting) (places : List Place) (i : ℕ) {best next : Held} → best ≡ heldUpto setting places i
+    → next ≡ betterOf setting best i (placeAt places i) → next ≡ heldUpto setting places (i + 1)
+unfolding heldUpto
+one-more-held setting places i e f =
+    rw (add-one i) (f ∙ ap (λ (h : Held). betterOf setting h i (placeAt places i)) e)
 
 module _ (setting : Setting) (places : List Place) where
   abbrev Eligible : ℕ → Type 0

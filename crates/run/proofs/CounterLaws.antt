@@ -6,11 +6,11 @@ use native.Mathlib.Omega.{arith}
 use lib.Dec.{eqb}
 use borrow.Author.Tests.{lt-ltb, le-ltb, eqb-true, eqb-false}
 use Rattle.job.specs.Limit.{relaxed, original}
-use Rattle.run.specs.declared.setting.Setting.{Setting}
-use Rattle.run.specs.declared.place.Place.{Place}
-use Rattle.run.specs.Setting.{inRelaxed}
-use Rattle.run.specs.Place.{placed, servedOf, workedOf, turnedOf}
-use Rattle.run.proofs.CondLaws.{by-test}
+use Rattle.place.specs.declared.setting.Setting.{Setting}
+use Rattle.place.specs.declared.record.Place.{Place}
+use Rattle.place.specs.Setting.{inRelaxed}
+use Rattle.place.specs.Place.{placed, servedOf, workedOf, turnedOf}
+use Rattle.place.proofs.CondLaws.{by-test}
 
 -- place r is place q after its slot was given to it, or not
 pub record Served (setting : Setting) (q : Place) (chosen : Bool) (r : Place) : Type 0 where

@@ -15,15 +15,17 @@ use Rattle.job.specs.declared.list.JobList.{JobList}
 use Rattle.job.specs.Limit.{countMost, original}
 use Rattle.job.specs.Sound.{SoundJob, SoundList}
 use Rattle.job.specs.Check.{jobAt}
-use Rattle.job.proofs.TestLaws.{clash, both}
-use Rattle.run.specs.declared.setting.Setting.{Setting}
-use Rattle.run.specs.declared.place.Place.{Place}
+use Rattle.place.specs.declared.setting.Setting.{Setting}
+use Rattle.place.specs.declared.record.Place.{Place}
+use Rattle.place.specs.Setting.{settingAllowed}
+use Rattle.place.specs.Opening.{blank, opened}
+use Rattle.place.specs.Sound.{SoundPlace}
 use Rattle.run.specs.declared.state.State.{State}
-use Rattle.run.specs.Setting.{settingAllowed}
-use Rattle.run.specs.State.{blank, placeAt, opened, zeros, freshUpto, freshOf}
-use Rattle.run.specs.Sound.{SoundPlace, SoundState}
+use Rattle.run.specs.State.{placeAt, zeros, freshUpto, freshOf}
+use Rattle.run.specs.Sound.{SoundState}
+use Rattle.job.proofs.TestLaws.{clash, both}
+use Rattle.place.proofs.PlaceLaws.{opened-sound}
 use Rattle.run.proofs.RangeLaws.{setting-facts}
-use Rattle.run.proofs.PlaceLaws.{opened-sound}
 
 -- a walk under two bounds
 module _ (i a b : ℕ) where

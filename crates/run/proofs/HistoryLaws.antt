@@ -13,14 +13,14 @@ use Rattle.job.specs.declared.record.Job.{Job}
 use Rattle.job.specs.Limit.{relaxed, original}
 use Rattle.job.specs.Sound.{SoundJob}
 use Rattle.job.specs.Window.{windowOf}
-use Rattle.run.specs.declared.setting.Setting.{Setting}
-use Rattle.run.specs.declared.place.Place.{Place}
-use Rattle.run.specs.State.{opened}
-use Rattle.run.specs.Place.{eligibleOf, overdueOf, workedOf, turnedOf, movedOf}
-use Rattle.run.specs.Sound.{SoundPlace}
+use Rattle.place.specs.declared.setting.Setting.{Setting}
+use Rattle.place.specs.declared.record.Place.{Place}
+use Rattle.place.specs.Opening.{opened}
+use Rattle.place.specs.Place.{eligibleOf, overdueOf, workedOf, turnedOf, movedOf}
+use Rattle.place.specs.Sound.{SoundPlace}
 use Rattle.run.specs.Bytes.{slotsOf, finishedIn}
 use Rattle.run.specs.History.{sinceWindow, sincePeriod, periodsBegun, PlaceHistory}
-use Rattle.run.proofs.PlaceLaws.{eligible-original}
+use Rattle.place.proofs.PlaceLaws.{eligible-original}
 use Rattle.run.proofs.BytesLaws.{countIn-none, countIn-more, finished-none, finished-append, finished-open, finished-empty}
 use Rattle.run.proofs.CycleLaws.{Tick, nothing-ends, period-ends, window-ends, cycle-goes-on, cycle-ends, since-goes-on, since-none, window-split, tick}
 use Rattle.run.proofs.CounterLaws.{Served, worked, turned-on, turned-period, turned-window}

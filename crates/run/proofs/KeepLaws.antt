@@ -5,14 +5,15 @@ use Prim.Native.Nat.{ℕ, _+_, _<_}
 use native.Mathlib.Omega.{arith}
 use lib.Dec.{eqb}
 use borrow.Author.Tests.{eqb-true}
+use Rattle.place.specs.Place.{movedOf}
+use Rattle.place.specs.Sound.{SoundPlace}
 use Rattle.run.specs.declared.state.State.{State}
-use Rattle.run.specs.Place.{movedOf}
 use Rattle.run.specs.Choice.{chosenOf}
 use Rattle.run.specs.Slot.{tagsAt, shortsAt, allMoved, turnOf}
-use Rattle.run.specs.Sound.{SoundPlace, SoundState}
+use Rattle.run.specs.Sound.{SoundState}
 use Rattle.run.specs.Meaning.{at, StepKeepsSound}
+use Rattle.place.proofs.PlaceLaws.{moved-sound}
 use Rattle.run.proofs.SlotLaws.{placed-length, placed-before, placed-later, count-high}
-use Rattle.run.proofs.PlaceLaws.{moved-sound}
 use Rattle.run.proofs.ChoiceLaws.{chosen-eligible}
 
 module _ (s : State) (sound : SoundState s) (i : ℕ) (listed : i < s .count) where

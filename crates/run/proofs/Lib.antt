@@ -1,11 +1,5 @@
 -- Laws beside the functions' own proofs, each over the setting: never once for each order or model.
-pub mod CondLaws
-pub mod SignedLaws
-pub mod BoundLaws
-pub mod CaseLaws
 pub mod SlotLaws
-pub mod PlaceLaws
-pub mod DistanceLaws
 pub mod ChoiceLaws
 pub mod MovingLaws
 pub mod KeepLaws

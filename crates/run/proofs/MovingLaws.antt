@@ -7,12 +7,12 @@ use native.Mathlib.Numerals.{add-one}
 use native.Mathlib.Omega.{arith}
 use lib.Dec.{eqb}
 use lib.ListN.{set}
-use Rattle.run.specs.declared.place.Place.{Place}
+use Rattle.place.specs.declared.record.Place.{Place}
+use Rattle.place.specs.declared.inner.service.Outcome.{Outcome}
+use Rattle.place.specs.Place.{movedOf}
 use Rattle.run.specs.declared.state.State.{State}
-use Rattle.run.specs.declared.inner.service.Outcome.{Outcome}
 use Rattle.run.specs.declared.inner.slot.Outcomes.{Outcomes}
 use Rattle.run.specs.State.{placeAt}
-use Rattle.run.specs.Place.{movedOf}
 use Rattle.run.specs.Slot.{movedAt, placesUpto, maskUpto, countUpto, tagsAt, shortsAt, allMoved}
 use Rattle.run.proofs.SlotLaws.{placed-now, place-more, mask-high, count-high, mask-more, count-more}
 

@@ -14,17 +14,19 @@ use borrow.Author.Tests.{not-true, ltb-true, ltb-false, leb-true, eqb-true, eqb-
 use mir.Syntax.{w64}
 use mir.Val.{Fits}
 use Rattle.job.specs.Limit.{countMost, relaxed, original}
-use Rattle.job.proofs.TestLaws.{both}
-use Rattle.job.proofs.Meaning.{job-passes-exactly}
-use Rattle.run.specs.declared.setting.Setting.{Setting}
-use Rattle.run.specs.declared.place.Place.{Place}
+use Rattle.place.specs.declared.setting.Setting.{Setting}
+use Rattle.place.specs.declared.record.Place.{Place}
+use Rattle.place.specs.Setting.{orderW, settingAllowed, inRelaxed}
+use Rattle.place.specs.Opening.{blank}
+use Rattle.place.specs.Sound.{RelaxedService, OriginalService, SoundPlace}
 use Rattle.run.specs.declared.state.Totals.{Totals}
 use Rattle.run.specs.declared.state.State.{State}
-use Rattle.run.specs.Setting.{orderW, settingAllowed, inRelaxed}
-use Rattle.run.specs.State.{clockMost, setsMost, blank, placeAt}
-use Rattle.run.specs.Sound.{RelaxedService, OriginalService, SoundPlace, SoundState}
+use Rattle.run.specs.State.{clockMost, setsMost, placeAt}
+use Rattle.run.specs.Sound.{SoundState}
 use Rattle.run.specs.Range.{jobPasses, serviceInRange, progressInRange, placeBlank, placeInRange, placesInRange, totalsInRange, stateInRange}
 use Rattle.run.specs.Meaning.{RangeExactly}
+use Rattle.job.proofs.TestLaws.{both}
+use Rattle.job.proofs.Meaning.{job-passes-exactly}
 
 -- the product of two widened numbers
 pub product-fits : {x y : ℕ} → x ≤ 4294967295 → y ≤ 4294967295 → Fits w64 (x * y)

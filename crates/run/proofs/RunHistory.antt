@@ -8,9 +8,9 @@ use Rattle.job.specs.declared.list.JobList.{JobList}
 use Rattle.job.specs.Limit.{countMost}
 use Rattle.job.specs.Check.{jobAt}
 use Rattle.job.specs.Sound.{SoundList}
-use Rattle.run.specs.declared.setting.Setting.{Setting}
+use Rattle.place.specs.declared.setting.Setting.{Setting}
+use Rattle.place.specs.Setting.{settingAllowed}
 use Rattle.run.specs.declared.state.State.{State}
-use Rattle.run.specs.Setting.{settingAllowed}
 use Rattle.run.specs.State.{clockMost, placeAt, freshOf}
 use Rattle.run.specs.Slot.{turnOf}
 use Rattle.run.specs.Sound.{SoundState}

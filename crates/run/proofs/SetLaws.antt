@@ -5,15 +5,15 @@ use Prim.Native.Nat.{ℕ, _<_}
 use native.Mathlib.Omega.{arith}
 use lib.Dec.{eqb, ltb}
 use borrow.Author.Tests.{ltb-true, lt-ltb, eqb-false, ne-eqb, not-true}
-use Rattle.job.proofs.TestLaws.{both}
+use Rattle.place.specs.Place.{firstTagged, owedOf, overdueOf, workedOf, windowEnds, shortOf, movedOf}
 use Rattle.run.specs.declared.state.State.{State}
-use Rattle.run.specs.Place.{firstTagged, owedOf, overdueOf, workedOf, windowEnds, shortOf, movedOf}
 use Rattle.run.specs.Choice.{chosenOf}
 use Rattle.run.specs.Slot.{tagsAt, shortsAt, allMoved, turnOf}
 use Rattle.run.specs.History.{member}
 use Rattle.run.specs.Meaning.{at, FirstTagged, TagsExactly, EndsShort, ShortsExactly}
+use Rattle.job.proofs.TestLaws.{both}
+use Rattle.place.proofs.PlaceLaws.{worked-ends, worked-owed}
 use Rattle.run.proofs.SlotLaws.{member-mask}
-use Rattle.run.proofs.PlaceLaws.{worked-ends, worked-owed}
 use Rattle.run.proofs.ChoiceLaws.{given-chosen}
 
 -- membership as the tests that decide it

@@ -14,10 +14,11 @@ use lib.Seq.{getD-set-same, getD-set-other}
 use borrow.Author.Count.{below-none, below-more}
 use borrow.Author.Tests.{ltb-true, ltb-false}
 use Rattle.job.specs.Limit.{countMost}
-use Rattle.run.specs.declared.setting.Setting.{Setting}
-use Rattle.run.specs.declared.place.Place.{Place}
-use Rattle.run.specs.declared.inner.service.Outcome.{Outcome}
-use Rattle.run.specs.State.{blank, placeAt}
+use Rattle.place.specs.declared.setting.Setting.{Setting}
+use Rattle.place.specs.declared.record.Place.{Place}
+use Rattle.place.specs.declared.inner.service.Outcome.{Outcome}
+use Rattle.place.specs.Opening.{blank}
+use Rattle.run.specs.State.{placeAt}
 use Rattle.run.specs.Slot.{movedAt, placesUpto, maskUpto, countUpto}
 use Rattle.run.specs.History.{member, sizeOf}
 

@@ -7,14 +7,14 @@ use Rattle.job.specs.declared.refusal.Refusal.{Refusal}
 use Rattle.job.specs.declared.list.JobList.{JobList}
 use Rattle.job.specs.Told.{Told, row, passed, told}
 use Rattle.job.specs.Check.{listTold}
-use Rattle.job.proofs.ToldLaws.{told-refuses, apart, valued}
-use Rattle.job.proofs.Meaning.{ListView, no-jobs, many-jobs, sound-list, faulty-list, list-view, passes-exactly, row-one-exactly, row-two-exactly, job-rows-exactly}
-use Rattle.run.specs.declared.setting.Setting.{Setting}
-use Rattle.run.specs.Setting.{settingAllowed}
+use Rattle.place.specs.declared.setting.Setting.{Setting}
+use Rattle.place.specs.Setting.{settingAllowed}
 use Rattle.run.specs.State.{zeros, freshOf}
 use Rattle.run.specs.Sound.{SoundState}
 use Rattle.run.specs.Step.{startTold, startState}
 use Rattle.run.specs.Meaning.{StartRowFifteen, StartChecks, StartSound}
+use Rattle.job.proofs.ToldLaws.{told-refuses, apart, valued}
+use Rattle.job.proofs.Meaning.{ListView, no-jobs, many-jobs, sound-list, faulty-list, list-view, passes-exactly, row-one-exactly, row-two-exactly, job-rows-exactly}
 use Rattle.run.proofs.FreshLaws.{fresh-sound}
 
 -- the answer

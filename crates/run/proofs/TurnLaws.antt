@@ -5,10 +5,10 @@ use Prim.Native.Nat.{ℕ, _+_, _<_}
 use native.Mathlib.Omega.{arith}
 use lib.Dec.{eqb, ltb}
 use borrow.Author.Tests.{eqb-true, eqb-false, eq-eqb, ne-eqb, lt-ltb, le-ltb}
+use Rattle.place.specs.Place.{eligibleOf, movedOf}
 use Rattle.run.specs.declared.state.State.{State}
 use Rattle.run.specs.declared.answer.Choice.the-variants.{Given}
 use Rattle.run.specs.State.{placeAt}
-use Rattle.run.specs.Place.{eligibleOf, movedOf}
 use Rattle.run.specs.Choice.{chosenOf}
 use Rattle.run.specs.Slot.{choiceOf, tagsAt, shortsAt, allMoved, turnOf}
 use Rattle.run.specs.Sound.{SoundState}

@@ -10,8 +10,8 @@ use Rattle.job.specs.declared.list.JobList.{JobList}
 use Rattle.job.specs.Limit.{countMost, relaxed, original}
 use Rattle.job.specs.Window.{windowOf}
 use Rattle.job.specs.Check.{jobAt}
-use Rattle.run.specs.declared.setting.Setting.{Setting}
-use Rattle.run.specs.declared.place.Place.{Place}
+use Rattle.place.specs.declared.setting.Setting.{Setting}
+use Rattle.place.specs.declared.record.Place.{Place}
 use Rattle.run.specs.declared.state.State.{State}
 use Rattle.run.specs.State.{placeAt, freshOf}
 use Rattle.run.specs.Slot.{countUpto, turnOf}

@@ -1,7 +1,5 @@
--- What the contracts of `run` say, from one place to a whole run, and what a reader may conclude from it.
-pub mod Setting
+-- What the contracts of `run` say, from one slot to a whole run, and what a reader may conclude from it.
 pub mod State
-pub mod Place
 pub mod Choice
 pub mod Slot
 pub mod Range

@@ -10,16 +10,17 @@ use Rattle.job.specs.declared.list.JobList.{JobList}
 use Rattle.job.specs.Told.{row, passed}
 use Rattle.job.specs.Check.{listTold}
 use Rattle.job.specs.Sound.{SoundList}
-use Rattle.run.specs.declared.setting.Setting.{Setting}
-use Rattle.run.specs.declared.place.Place.{Place}
+use Rattle.place.specs.declared.setting.Setting.{Setting}
+use Rattle.place.specs.declared.record.Place.{Place}
+use Rattle.place.specs.declared.inner.choice.Held.{Held}
+use Rattle.place.specs.Setting.{settingAllowed}
+use Rattle.place.specs.Place.{owedOf, eligibleOf, overdueOf, workedOf, windowEnds}
+use Rattle.place.specs.Choice.{distanceOf, nearerOf}
 use Rattle.run.specs.declared.state.State.{State}
 use Rattle.run.specs.declared.answer.StepAnswer.{StepAnswer}
 use Rattle.run.specs.declared.answer.Choice.the-variants.{Given, Idle}
-use Rattle.run.specs.declared.inner.choice.Held.{Held}
-use Rattle.run.specs.Setting.{settingAllowed}
 use Rattle.run.specs.State.{clockMost, placeAt, freshOf, zeros}
-use Rattle.run.specs.Place.{owedOf, eligibleOf, overdueOf, workedOf, windowEnds}
-use Rattle.run.specs.Choice.{distanceOf, nearerOf, chosenOf}
+use Rattle.run.specs.Choice.{chosenOf}
 use Rattle.run.specs.Slot.{turnOf}
 use Rattle.run.specs.Range.{stateInRange}
 use Rattle.run.specs.Sound.{SoundState}

@@ -7,11 +7,11 @@ use lib.ListN.{length}
 use Rattle.job.specs.declared.record.Job.{Job}
 use Rattle.job.specs.Limit.{countMost}
 use Rattle.job.specs.Check.{jobTold}
-use Rattle.run.specs.declared.setting.Setting.{Setting}
-use Rattle.run.specs.declared.place.Place.{Place}
+use Rattle.place.specs.declared.setting.Setting.{Setting}
+use Rattle.place.specs.declared.record.Place.{Place}
+use Rattle.place.specs.Setting.{settingAllowed, inRelaxed}
 use Rattle.run.specs.declared.state.Totals.{Totals}
 use Rattle.run.specs.declared.state.State.{State}
-use Rattle.run.specs.Setting.{settingAllowed, inRelaxed}
 use Rattle.run.specs.State.{clockMost, setsMost, placeAt}
 
 -- 'its jobs pass 1 to 6'

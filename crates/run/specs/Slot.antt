@@ -4,17 +4,17 @@ use mathlib.Core.Bool.{Bool, not, cond}
 use mathlib.Core.List.{List}
 use lib.Dec.{eqb}
 use lib.ListN.{set}
-use Rattle.run.specs.declared.setting.Setting.{Setting}
-use Rattle.run.specs.declared.place.Place.{Place}
+use Rattle.place.specs.declared.setting.Setting.{Setting}
+use Rattle.place.specs.declared.record.Place.{Place}
+use Rattle.place.specs.declared.inner.service.Outcome.{Outcome}
+use Rattle.place.specs.Place.{movedOf}
 use Rattle.run.specs.declared.state.Totals.{Totals}
 use Rattle.run.specs.declared.state.State.{State}
 use Rattle.run.specs.declared.answer.Choice.{Choice}
 use Rattle.run.specs.declared.answer.Choice.the-variants.{Given, Idle}
-use Rattle.run.specs.declared.inner.service.Outcome.{Outcome}
 use Rattle.run.specs.declared.inner.slot.Turned.{Turned}
 use Rattle.run.specs.declared.inner.slot.Outcomes.{Outcomes}
 use Rattle.run.specs.State.{placeAt}
-use Rattle.run.specs.Place.{movedOf}
 use Rattle.run.specs.Choice.{chosenOf}
 
 -- 'the choice, a job or idle'

@@ -1,14 +1,14 @@
 -- The state of a run: the fresh state of a list, and the state of all zeros.
 use Prim.Native.Nat.{ℕ, zero, suc, min}
-use mathlib.Core.Bool.{false}
 use mathlib.Core.List.{List}
 use lib.ListN.{getD, set, replicate}
 use Rattle.job.specs.declared.record.Job.{Job}
 use Rattle.job.specs.declared.list.JobList.{JobList}
 use Rattle.job.specs.Limit.{countMost}
-use Rattle.job.specs.Check.{noJob, jobAt}
-use Rattle.run.specs.declared.setting.Setting.{Setting}
-use Rattle.run.specs.declared.place.Place.{Place}
+use Rattle.job.specs.Check.{jobAt}
+use Rattle.place.specs.declared.setting.Setting.{Setting}
+use Rattle.place.specs.declared.record.Place.{Place}
+use Rattle.place.specs.Opening.{blank, opened}
 use Rattle.run.specs.declared.state.State.{State}
 
 -- 'slot clock: 0 to 4,294,967,295'
@@ -19,15 +19,8 @@ clockMost = 4294967295
 abbrev pub setsMost : ℕ
 setsMost = 16
 
-abbrev pub blank : Place
-blank = record { job = noJob; at = record { e = 0; p = 0; u = 0; s = 0; v = 0; tag = false } }
-
 abbrev pub placeAt : List Place → ℕ → Place
 placeAt places i = getD places i blank
-
--- a job at the opening of its window
-abbrev pub opened : Job → Place
-opened j = record { job = j; at = record { e = 0; p = 1; u = 0; s = 0; v = 0; tag = false } }
 
 -- 'the state of all zeros'
 abbrev pub zeros : State

@@ -6,9 +6,9 @@ use lib.Dec.{eqb}
 use Rattle.job.specs.declared.list.JobList.{JobList}
 use Rattle.job.specs.Told.{Told, row}
 use Rattle.job.specs.Check.{listTold}
-use Rattle.run.specs.declared.setting.Setting.{Setting}
+use Rattle.place.specs.declared.setting.Setting.{Setting}
+use Rattle.place.specs.Setting.{settingAllowed}
 use Rattle.run.specs.declared.state.State.{State}
-use Rattle.run.specs.Setting.{settingAllowed}
 use Rattle.run.specs.State.{clockMost, zeros, freshOf}
 use Rattle.run.specs.Slot.{turnOf}
 use Rattle.run.specs.Range.{stateInRange}

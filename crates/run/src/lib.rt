@@ -2,9 +2,7 @@
 // orders.
 mod answer;
 pub mod inner;
-mod place;
 mod range;
-mod setting;
 mod state;
 mod steps;
 
@@ -13,9 +11,6 @@ pub use answer::Slot;
 pub use answer::Started;
 pub use answer::StepAnswer;
 pub use answer::Stepped;
-pub use place::Place;
-pub use place::Progress;
-pub use setting::Setting;
 pub use state::State;
 pub use state::Totals;
 pub use steps::start;

@@ -2,13 +2,13 @@
 // ranges. Widened before they are multiplied, no number can wrap.
 ghost use mathlib.Core.Path.{_≡_};
 ghost use Rattle.run.specs.Range.{jobPasses, serviceInRange, progressInRange, placeBlank, placeInRange, placesInRange, totalsInRange};
-use crate::place::Place;
-use crate::setting::Setting;
 use crate::state::State;
 use crate::state::Totals;
 use job::Checked;
 use job::Job;
 use job::JobList;
+use place::Place;
+use place::Setting;
 
 fn wide(x: u32) -> u64
     ensures { λ r. ⌜ r ≡ x ⌝ }

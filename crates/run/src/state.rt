@@ -1,13 +1,11 @@
 // The state of a run: a setting, the clock, the places of the jobs, and the totals.
 ghost use mathlib.Core.Path.{_≡_};
-ghost use Rattle.run.specs.State.{zeros, blank, opened, freshOf};
+ghost use Rattle.run.specs.State.{zeros, freshOf};
 ghost use Rattle.run.specs.Range.{stateInRange};
-use crate::place::Place;
-use crate::place::Progress;
 use crate::range;
-use crate::setting::Setting;
-use job::Job;
 use job::JobList;
+use place::Place;
+use place::Setting;
 
 pub struct Totals {
     pub given: u32,
@@ -38,7 +36,7 @@ impl State {
             setting: Setting { order: 0, model: 0 },
             clock: 0,
             count: 0,
-            places: [blank_place(); 16],
+            places: [Place::blank(); 16],
             totals: Totals {
                 given: 0,
                 idle: 0,
@@ -58,7 +56,7 @@ impl State {
         let count = list.count;
         let mut at: usize = 0;
         while (at < count) & (at < JobList::COUNT_MOST) {
-            let place = opened_place(list.jobs[at]);
+            let place = Place::opened(list.jobs[at]);
             state.places[at] = place;
             at += 1;
         }
@@ -75,39 +73,5 @@ impl State {
             & (self.count <= JobList::COUNT_MOST)
             & range::places_in_range(self)
             & range::totals_in_range(self.clock, self.totals)
-    }
-}
-
-// A place of no job.
-fn blank_place() -> Place
-    ensures { λ r. ⌜ r ≡ blank ⌝ }
-{
-    Place {
-        job: Job::none(),
-        at: Progress {
-            e: 0,
-            p: 0,
-            u: 0,
-            s: 0,
-            v: 0,
-            tag: false,
-        },
-    }
-}
-
-// A job at the opening of its window.
-fn opened_place(job: Job) -> Place
-    ensures { λ r. ⌜ r ≡ opened job ⌝ }
-{
-    Place {
-        job,
-        at: Progress {
-            e: 0,
-            p: 1,
-            u: 0,
-            s: 0,
-            v: 0,
-            tag: false,
-        },
     }
 }

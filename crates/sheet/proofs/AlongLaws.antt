@@ -8,12 +8,12 @@ use native.Mathlib.Omega.{arith}
 use lib.Dec.{eqb}
 use lib.ListN.{length}
 use Rattle.job.specs.Told.{row, passed}
-use Rattle.job.proofs.TestLaws.{clash}
-use Rattle.run.proofs.CondLaws.{by-test}
 use Rattle.sheet.specs.declared.reader.Reader.{Reader}
 use Rattle.sheet.specs.Sheet.{bytesMost, sheetTold}
 use Rattle.sheet.specs.Reader.{byteAt, startReader, SoundReader, ownByte, fitsOf, pushedOf, jobStoredOf, storedOf, advancedOf, betweenLines, readerUpto, fitsUpto}
 use Rattle.sheet.specs.Answer.{lastReader, readTold, readSheet}
+use Rattle.job.proofs.TestLaws.{clash}
+use Rattle.place.proofs.CondLaws.{by-test}
 use Rattle.sheet.proofs.ByteLaws.{refuted}
 use Rattle.sheet.proofs.HoldsLaws.{holds-sound}
 use Rattle.sheet.proofs.UptoLaws.{upto-holds, formFits, formed-fits, Stop, place-is}

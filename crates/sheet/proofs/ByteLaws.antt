@@ -9,11 +9,11 @@ use native.Mathlib.Omega.{arith}
 use lib.Dec.{leb, ltb, eqb}
 use borrow.Author.Tests.{ltb-true, leb-true, eqb-true, lt-ltb, le-ltb, le-leb, eq-eqb}
 use Rattle.job.specs.declared.record.Job.{Job}
-use Rattle.job.proofs.TestLaws.{both}
-use Rattle.run.proofs.CondLaws.{by-test}
 use Rattle.sheet.specs.declared.reading.Sheet.{Sheet}
 use Rattle.sheet.specs.declared.reader.Reader.{Reader}
 use Rattle.sheet.specs.Reader.{SoundReader, letterFits, digitFits, ownByte, endByte, fitsOf, valueAfter, storedOf, advancedOf}
+use Rattle.job.proofs.TestLaws.{both}
+use Rattle.place.proofs.CondLaws.{by-test}
 
 abbrev pub readerAt : ℕ → ℕ → ℕ → Job → Sheet → Reader
 readerAt field digits value job sheet =

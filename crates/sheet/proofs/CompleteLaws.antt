@@ -8,16 +8,16 @@ use lib.ListN.{length, length-append}
 use Rattle.job.specs.declared.record.Job.{Job}
 use Rattle.job.specs.Limit.{original}
 use Rattle.job.specs.Check.{noJob, jobAt}
-use Rattle.run.specs.declared.setting.Setting.{Setting}
-use Rattle.run.specs.Setting.{orderW}
 use Rattle.text.specs.Decimal.{decimalOf}
-use Rattle.text.proofs.DecimalLaws.{by-digits, decimal-one, decimal-more, decimal-some, decimal-length}
+use Rattle.place.specs.declared.setting.Setting.{Setting}
+use Rattle.place.specs.Setting.{orderW}
 use Rattle.sheet.specs.declared.reading.Sheet.{Sheet}
 use Rattle.sheet.specs.declared.reader.Reader.{Reader}
 use Rattle.sheet.specs.Form.{numberMost, orderLetter, modelLetter, firstLine, jobLine, jobLines, SmallJob, SheetOf}
 use Rattle.sheet.specs.Sheet.{blankSheet}
 use Rattle.sheet.specs.Reader.{startReader, fitsOf, ownByte, valueAfter, advancedOf, endByte, sheetOf, pushedOf, jobStoredOf, storedOf}
 use Rattle.sheet.specs.Meaning.{Reads}
+use Rattle.text.proofs.DecimalLaws.{by-digits, decimal-one, decimal-more, decimal-some, decimal-length}
 use Rattle.sheet.proofs.ByteLaws.{readerAt, number-own, number-value, own-fits, own-leaves, end-fits, end-leaves}
 use Rattle.sheet.proofs.PushedLaws.{pushedAll, lastJob, all-count, all-at}
 use Rattle.sheet.proofs.RunLaws.{runFrom, Runs, no-bytes, one-byte, _then_}

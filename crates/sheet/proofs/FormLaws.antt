@@ -7,11 +7,11 @@ use native.Mathlib.Omega.{arith}
 use lib.Dec.{eqb}
 use lib.ListN.{length, length-append}
 use Rattle.job.specs.declared.record.Job.{Job}
-use Rattle.run.specs.declared.setting.Setting.{Setting}
 use Rattle.text.specs.Decimal.{decimalOf}
-use Rattle.text.proofs.DecimalLaws.{decimal-some, decimal-cut}
+use Rattle.place.specs.declared.setting.Setting.{Setting}
 use Rattle.sheet.specs.Form.{numberMost, orderLetter, modelLetter, firstLine, jobLine, jobLines, SmallJob}
 use Rattle.sheet.specs.Meaning.{TextDetermined, ValuesDetermined}
+use Rattle.text.proofs.DecimalLaws.{decimal-some, decimal-cut}
 use Rattle.sheet.proofs.HoldsLaws.{SmallJobs}
 
 pub text-determined : TextDetermined

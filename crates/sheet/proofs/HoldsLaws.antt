@@ -13,16 +13,16 @@ use borrow.Author.Tests.{eqb-true}
 use Rattle.job.specs.declared.record.Job.{Job}
 use Rattle.job.specs.Limit.{original}
 use Rattle.job.specs.Check.{jobAt}
-use Rattle.job.proofs.TestLaws.{both}
-use Rattle.run.specs.Setting.{orderW}
-use Rattle.run.proofs.CondLaws.{by-test}
 use Rattle.text.specs.Ascii.{ascii}
 use Rattle.text.specs.Decimal.{decimalOf}
-use Rattle.text.proofs.DecimalLaws.{decimal-one, decimal-more, decimal-some, decimal-length, decimal-long}
+use Rattle.place.specs.Setting.{orderW}
 use Rattle.sheet.specs.declared.reading.Sheet.{Sheet}
 use Rattle.sheet.specs.declared.reader.Reader.{Reader}
 use Rattle.sheet.specs.Form.{numberMost, orderLetter, modelLetter, firstLine, jobLine, jobLines, SmallJob, IsSheet}
 use Rattle.sheet.specs.Reader.{startReader, jobOf, SoundReader, betweenLines, letterFits, ownByte, endByte, fitsOf, valueAfter, jobStoredOf, storedOf, advancedOf}
+use Rattle.job.proofs.TestLaws.{both}
+use Rattle.text.proofs.DecimalLaws.{decimal-one, decimal-more, decimal-some, decimal-length, decimal-long}
+use Rattle.place.proofs.CondLaws.{by-test}
 use Rattle.sheet.proofs.ByteLaws.{readerAt, either, DigitNext, own-letter, letter-value, own-number, number-value, Fitting, own, end, fitting, own-leaves, end-leaves}
 
 -- a field's text, and the most that its value may be

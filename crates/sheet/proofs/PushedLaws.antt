@@ -11,8 +11,8 @@ use Rattle.job.specs.declared.record.Job.{Job}
 use Rattle.job.specs.declared.list.JobList.{JobList}
 use Rattle.job.specs.Limit.{countMost}
 use Rattle.job.specs.Check.{noJob, jobAt}
-use Rattle.run.proofs.CondLaws.{by-test}
 use Rattle.sheet.specs.Reader.{pushedOf}
+use Rattle.place.proofs.CondLaws.{by-test}
 
 unfoldable pub pushedAll : JobList → List Job → JobList
 pushedAll l [] = l

@@ -7,11 +7,11 @@ use native.Mathlib.Decide.{decLt, le-ind}
 use native.Mathlib.Omega.{arith}
 use lib.ListN.{length, take}
 use lib.Seq.{take-suc, take-length}
-use Rattle.job.proofs.TestLaws.{both, clash}
-use Rattle.run.proofs.CondLaws.{by-test}
 use Rattle.sheet.specs.Form.{IsSheet, Begins}
 use Rattle.sheet.specs.Reader.{byteAt, startReader, fitsOf, betweenLines, readerUpto, fitsUpto, placeUpto}
 use Rattle.sheet.specs.Answer.{lastReader}
+use Rattle.job.proofs.TestLaws.{both, clash}
+use Rattle.place.proofs.CondLaws.{by-test}
 use Rattle.sheet.proofs.RunLaws.{runFrom, fitsFrom, front-fits, upto-run, upto-fits}
 use Rattle.sheet.proofs.CompleteLaws.{sheet-run}
 use Rattle.sheet.proofs.HoldsLaws.{Holds, holds-start, holds-more, holds-sheet}

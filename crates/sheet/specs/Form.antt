@@ -8,10 +8,10 @@ use lib.ListN.{length}
 use Rattle.job.specs.declared.record.Job.{Job}
 use Rattle.job.specs.Limit.{relaxed, original}
 use Rattle.job.specs.Check.{jobAt}
-use Rattle.run.specs.declared.setting.Setting.{Setting}
-use Rattle.run.specs.Setting.{orderV, orderW}
 use Rattle.text.specs.Ascii.{ascii}
 use Rattle.text.specs.Decimal.{decimalOf}
+use Rattle.place.specs.declared.setting.Setting.{Setting}
+use Rattle.place.specs.Setting.{orderV, orderW}
 
 -- 'Numbers are 0 or up to 5 digits with no leading zero.'
 abbrev pub numberMost : ℕ

@@ -8,7 +8,7 @@ use Rattle.job.specs.declared.record.Job.{Job}
 use Rattle.job.specs.Limit.{countMost}
 use Rattle.job.specs.Told.{row, passed}
 use Rattle.job.specs.Check.{jobAt}
-use Rattle.run.specs.declared.setting.Setting.{Setting}
+use Rattle.place.specs.declared.setting.Setting.{Setting}
 use Rattle.sheet.specs.declared.reading.Sheet.{Sheet}
 use Rattle.sheet.specs.Form.{SheetOf, IsSheet, Begins}
 use Rattle.sheet.specs.Sheet.{bytesMost, slotsMost}

@@ -8,7 +8,7 @@ use Rattle.job.specs.declared.record.Job.{Job}
 use Rattle.job.specs.declared.list.JobList.{JobList}
 use Rattle.job.specs.Limit.{countMost}
 use Rattle.job.specs.Check.{noJob}
-use Rattle.run.specs.declared.setting.Setting.{Setting}
+use Rattle.place.specs.declared.setting.Setting.{Setting}
 use Rattle.sheet.specs.declared.reading.Sheet.{Sheet}
 use Rattle.sheet.specs.declared.reader.Reader.{Reader}
 use Rattle.sheet.specs.Sheet.{blankSheet}

@@ -7,7 +7,7 @@ use crate::reader::Reader;
 use job::Checked;
 use job::JobList;
 use job::Refusal;
-use run::Setting;
+use place::Setting;
 
 pub struct Sheet {
     pub setting: Setting,

@@ -9,22 +9,25 @@ use lib.Dec.{eqb}
 use lib.ListN.{length, take, set, length-set}
 use lib.Seq.{getD-set-same, getD-set-other, take-all, take-suc-set}
 use borrow.Author.Tests.{eqb-true}
-use Rattle.run.specs.declared.setting.Setting.{Setting}
-use Rattle.run.specs.declared.place.Place.{Place}
+use Rattle.place.specs.declared.setting.Setting.{Setting}
+use Rattle.place.specs.declared.record.Place.{Place}
+use Rattle.place.specs.declared.inner.service.Outcome.{Outcome}
+use Rattle.place.specs.declared.inner.choice.Held.{Held}
+use Rattle.place.specs.Opening.{blank}
+use Rattle.place.specs.Place.{eligibleOf, movedOf}
+use Rattle.place.specs.Choice.{Small, nobody, betterOf}
+use Rattle.place.specs.Sound.{SoundPlace}
 use Rattle.run.specs.declared.state.Totals.{Totals}
 use Rattle.run.specs.declared.state.State.{State}
-use Rattle.run.specs.declared.inner.service.Outcome.{Outcome}
-use Rattle.run.specs.declared.inner.choice.Held.{Held}
-use Rattle.run.specs.State.{clockMost, blank, placeAt}
-use Rattle.run.specs.Place.{eligibleOf, movedOf}
-use Rattle.run.specs.Choice.{Small, nobody, betterOf, heldUpto, chosenOf}
+use Rattle.run.specs.State.{clockMost, placeAt}
+use Rattle.run.specs.Choice.{heldUpto, chosenOf}
 use Rattle.run.specs.Slot.{choiceOf, movedAt, placesUpto, countUpto, tagsAt, shortsAt, allMoved, countedOf, turnOf}
-use Rattle.run.specs.Sound.{SoundPlace, SoundState}
+use Rattle.run.specs.Sound.{SoundState}
 use Rattle.run.specs.Answer.{byteOf}
 use Rattle.run.specs.Run.{afterSlots, choicesOf}
+use Rattle.place.proofs.PlaceLaws.{moved-sound}
+use Rattle.place.proofs.BoundLaws.{better-small, nobody-small}
 use Rattle.run.proofs.SlotLaws.{placed-length, placed-now, place-more, count-high, count-more}
-use Rattle.run.proofs.PlaceLaws.{moved-sound}
-use Rattle.run.proofs.BoundLaws.{better-small, nobody-small}
 use Rattle.run.proofs.ChoiceLaws.{ChoiceView, none-chosen, one-chosen, choice-view, chosen-eligible}
 use Rattle.run.proofs.RunLaws.{after-more, choices-more, after-setting, after-count, after-clock, after-sound}
 

@@ -8,9 +8,9 @@ use lib.ListN.{length, getD}
 use Rattle.job.specs.declared.list.JobList.{JobList}
 use Rattle.job.specs.Told.{row, passed}
 use Rattle.job.specs.Sound.{SoundList}
-use Rattle.run.specs.declared.setting.Setting.{Setting}
+use Rattle.place.specs.declared.setting.Setting.{Setting}
+use Rattle.place.specs.Setting.{settingAllowed}
 use Rattle.run.specs.declared.state.State.{State}
-use Rattle.run.specs.Setting.{settingAllowed}
 use Rattle.run.specs.State.{clockMost, freshOf}
 use Rattle.run.specs.Sound.{SoundState}
 use Rattle.run.specs.Run.{choicesOf}

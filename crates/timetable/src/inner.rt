@@ -7,11 +7,11 @@ ghost use Rattle.run.specs.Sound.{SoundState};
 ghost use Rattle.run.specs.Slot.{choiceOf};
 ghost use Rattle.run.specs.Answer.{byteOf};
 ghost use Rattle.run.specs.Run.{afterSlots, choicesOf};
+use place::inner::choice::better;
+use place::inner::choice::nobody;
+use place::inner::service::moved;
 use run::State;
-use run::inner::choice::better;
 use run::inner::choice::choose;
-use run::inner::choice::nobody;
-use run::inner::service::moved;
 use run::inner::slot::counted;
 use run::inner::slot::plus_if;
 

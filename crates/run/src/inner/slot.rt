@@ -9,10 +9,10 @@ ghost use Rattle.run.specs.Slot.{choiceOf, allMoved, countedOf, turnOf};
 use crate::answer::Choice;
 use crate::answer::Slot;
 use crate::inner::choice::choose;
-use crate::inner::service::moved;
-use crate::place::Place;
 use crate::state::State;
 use crate::state::Totals;
+use place::Place;
+use place::inner::service::moved;
 
 pub struct Turned {
     pub slot: Slot,

@@ -6,7 +6,7 @@ use lib.ListN.{length}
 use borrow.Author.Needs.{needs}
 use borrow.Author.Tests.{ne-eqb}
 use Rattle.job.specs.Told.{Told}
-use Rattle.run.specs.declared.setting.Setting.{Setting}
+use Rattle.place.specs.declared.setting.Setting.{Setting}
 use Rattle.run.specs.Step.{startTold}
 use Rattle.entry.specs.JobBytes.{listFrom}
 use Rattle.entry.proofs.EntryLaws.{fill-broken, fill-starts, bytes-stay, writes-on}

@@ -7,8 +7,8 @@ use Rattle.job.specs.declared.refusal.Refusal.the-variants.{OrderOrModel}
 use Rattle.job.specs.declared.list.JobList.{JobList}
 use Rattle.job.specs.Told.{Told, toldChecked}
 use Rattle.job.specs.Check.{listTold}
-use Rattle.run.specs.declared.setting.Setting.{Setting}
-use Rattle.run.specs.Setting.{settingAllowed}
+use Rattle.place.specs.declared.setting.Setting.{Setting}
+use Rattle.place.specs.Setting.{settingAllowed}
 use Rattle.run.specs.Step.{startTold}
 use Rattle.run.proofs.StartLaws.{start-checks, not-started, state-passed, state-refused}
 use Rattle.run.proofs.steps.start.Statement.{statement}
@@ -21,14 +21,15 @@ checked l s {r} test allowed same = start-checks l s (sym test ∙ not-false r a
 allowed-requires : tie.Need-allowed-requires
 allowed-requires c κs = search needs
 
-zeros-requires : tie.Need-zeros-requires
-zeros-requires c κs = search needs
+not-started-requires : tie.Need-not-started-requires
+not-started-requires c κs = search needs
 
 returns : tie.Need-returns
 returns c =
     let args = c .before .before .before .args in
     let told = not-started (args .list) (args .setting) (sym (c .before .before .allowed .ensures) ∙ not-true _ (c .before .if1 .taken)) in
-    (sym told, c .zeros .ensures ∙ sym (state-refused (args .list) (args .setting) OrderOrModel told))
+    let made = c .not-started .ensures in
+    (ap toldChecked (made .0) ∙ sym told, made .1 ∙ sym (state-refused (args .list) (args .setting) OrderOrModel told))
 
 check-requires : tie.Need-check-requires
 check-requires c κs = search needs
@@ -36,15 +37,16 @@ check-requires c κs = search needs
 enum-told : tie.Need-enum-told
 enum-told c = search needs
 
-zeros-requires-2 : tie.Need-zeros-requires-2
-zeros-requires-2 c κs = search needs
+not-started-requires-2 : tie.Need-not-started-requires-2
+not-started-requires-2 c κs = search needs
 
 returns-2 : tie.Need-returns-2
 returns-2 c =
     let args = c .before .before .before .before .before .before .args in
     let refused = c .before .enum-told .given in
     let told = checked (args .list) (args .setting) (c .before .before .before .before .before .allowed .ensures) (c .before .before .before .before .if1 .left) (c .before .before .before .check .ensures) in
-    (sym told, c .zeros2 .ensures ∙ sym (state-refused (args .list) (args .setting) (refused .0 .0) (told ∙ ap toldChecked (refused .1))))
+    let made = c .not-started2 .ensures in
+    (ap toldChecked (made .0) ∙ sym told, made .1 ∙ sym (state-refused (args .list) (args .setting) (refused .0 .0) (told ∙ ap toldChecked (refused .1))))
 
 enum-told-2 : tie.Need-enum-told-2
 enum-told-2 c = search needs
@@ -63,11 +65,11 @@ start-spec =
     tie.close
     (tie.spec
     allowed-requires
-    zeros-requires
+    not-started-requires
     returns
     check-requires
     enum-told
-    zeros-requires-2
+    not-started-requires-2
     returns-2
     enum-told-2
     fresh-requires

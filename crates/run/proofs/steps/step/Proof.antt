@@ -12,7 +12,7 @@ use Rattle.run.specs.declared.inner.slot.Turned.{Turned}
 use Rattle.run.specs.State.{clockMost}
 use Rattle.run.specs.Slot.{turnOf}
 use Rattle.run.specs.Range.{stateInRange}
-use Rattle.run.specs.Answer.{toldSlot}
+use Rattle.run.specs.Answer.{toldSlot, toldStep}
 use Rattle.run.specs.Step.{stepTold, stepState}
 use Rattle.run.proofs.RangeLaws.{range-exactly}
 use Rattle.run.proofs.steps.step.Statement.{statement}
@@ -31,17 +31,25 @@ state-by s e = ap (λ (x : Told). cond (eqb (x .number) 0) (turnOf s .state) s) 
 in-range-requires : tie.Need-in-range-requires
 in-range-requires c κs = search needs
 
+not-stepped-requires : tie.Need-not-stepped-requires
+not-stepped-requires c κs = search needs
+
 returns : tie.Need-returns
 returns c =
-    let s = c .before .before .args .state in
-    let told = told-by s false _ (sym (c .before .in-range .ensures) ∙ not-true _ (c .if1 .taken)) refl in
-    (told, state-by s told)
+    let s = c .before .before .before .args .state in
+    let told = told-by s false _ (sym (c .before .before .in-range .ensures) ∙ not-true _ (c .before .if1 .taken)) refl in
+    let made = c .not-stepped .ensures in
+    (ap toldStep (made .0) ∙ told, made .1 ∙ state-by s told)
+
+not-stepped-requires-2 : tie.Need-not-stepped-requires-2
+not-stepped-requires-2 c κs = search needs
 
 returns-2 : tie.Need-returns-2
 returns-2 c =
-    let s = c .before .before .before .before .args .state in
-    let told = told-by s true true (sym (c .before .before .before .in-range .ensures) ∙ not-false _ (c .before .before .if1 .left)) (eq-eqb _ _ (c .if2 .taken)) in
-    (told, state-by s told)
+    let s = c .before .before .before .before .before .args .state in
+    let told = told-by s true true (sym (c .before .before .before .before .in-range .ensures) ∙ not-false _ (c .before .before .before .if1 .left)) (eq-eqb _ _ (c .before .if2 .taken)) in
+    let made = c .not-stepped2 .ensures in
+    (ap toldStep (made .0) ∙ told, made .1 ∙ state-by s told)
 
 turn-requires : tie.Need-turn-requires
 turn-requires c κs =
@@ -57,4 +65,13 @@ returns-3 c =
     (ap (λ (t : Turned). row 0 (toldSlot (t .slot))) turned ∙ told, ap (λ (t : Turned). t .state) turned ∙ state-by s told)
 
 pub step-spec : {M : Type 1} → statement M
-step-spec = tie.close (tie.spec in-range-requires returns returns-2 turn-requires returns-3)
+step-spec =
+    tie.close
+    (tie.spec
+    in-range-requires
+    not-stepped-requires
+    returns
+    not-stepped-requires-2
+    returns-2
+    turn-requires
+    returns-3)

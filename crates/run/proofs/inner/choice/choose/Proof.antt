@@ -3,10 +3,11 @@ use mathlib.Core.Path.{_≡_, refl, ap, _∙_}
 use Prim.Native.Nat.{ℕ, _-_, _≤_}
 use native.Mathlib.Omega.{arith}
 use borrow.Author.Needs.{needs}
-use Rattle.run.specs.declared.inner.choice.Held.{Held}
-use Rattle.run.specs.Choice.{Small, heldUpto, chosenOf}
-use Rattle.run.proofs.BoundLaws.{better-small, nobody-small}
-use Rattle.run.proofs.CaseLaws.{held-more}
+use Rattle.place.specs.declared.inner.choice.Held.{Held}
+use Rattle.place.specs.Choice.{Small}
+use Rattle.run.specs.Choice.{heldUpto, chosenOf}
+use Rattle.place.proofs.BoundLaws.{better-small, nobody-small}
+use Rattle.run.proofs.ChoiceLaws.{one-more-held}
 use Rattle.run.proofs.inner.choice.choose.Statement.{statement}
 use Rattle.run.proofs.inner.choice.choose.Tie as tie
 
@@ -45,7 +46,7 @@ loop-again c =
     let inv = c .before .before .before .loop .inv in
     let sound = start .pre .places _ (c .before .before .loop-test .taken) in (
       omega arith,
-      held-more (start .args .t1 .setting) (start .args .t1 .places) (c .before .before .before .loop .at) (inv .1) (c .better .ensures),
+      one-more-held (start .args .t1 .setting) (start .args .t1 .places) (c .before .before .before .loop .at) (inv .1) (c .better .ensures),
       rw (c .better .ensures) (better-small sound (inv .2) _),
     )
 

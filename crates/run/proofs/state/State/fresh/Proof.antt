@@ -20,14 +20,14 @@ zeros-requires c κs = search needs
 loop-holds : tie.Need-loop-holds Inv-loop μ-loop
 loop-holds c = (omega arith, omega arith, none-opened (c .before .args .t1) (c .before .args .setting) (c .zeros .ensures))
 
-mul-opened-place : tie.Need-mul-opened-place Inv-loop μ-loop
-mul-opened-place c = omega (arith, below-second)
+mul-opened : tie.Need-mul-opened Inv-loop μ-loop
+mul-opened c = omega (arith, below-second)
 
-element-copy-out-opened-place : tie.Need-element-copy-out-opened-place Inv-loop μ-loop
-element-copy-out-opened-place c = omega (arith, below-second)
+element-copy-out-opened : tie.Need-element-copy-out-opened Inv-loop μ-loop
+element-copy-out-opened c = omega (arith, below-second)
 
-opened-place-requires : tie.Need-opened-place-requires Inv-loop μ-loop
-opened-place-requires c κs = search needs
+opened-requires : tie.Need-opened-requires Inv-loop μ-loop
+opened-requires c κs = search needs
 
 mul-place : tie.Need-mul-place Inv-loop μ-loop
 mul-place c = omega (arith, below-second)
@@ -47,7 +47,7 @@ loop-again c =
     let loop = c .before .before .before .loop in (
       omega (arith, below-first),
       omega (arith, below-second),
-      one-more-opened (args .t1) (args .setting) (loop .at) (loop .inv .2) (c .opened-place .ensures),
+      one-more-opened (args .t1) (args .setting) (loop .at) (loop .inv .2) (c .opened .ensures),
     )
 
 returns : tie.Need-returns Inv-loop μ-loop
@@ -64,9 +64,9 @@ fresh-spec =
     μ-loop
     zeros-requires
     loop-holds
-    mul-opened-place
-    element-copy-out-opened-place
-    opened-place-requires
+    mul-opened
+    element-copy-out-opened
+    opened-requires
     mul-place
     element-set-from-place
     add-at

@@ -1,0 +1,165 @@
+-- What the numbers of a sound place keep to, so that nothing computed from them wraps.
+use mathlib.Core.Path.{_≡_, refl, sym, ap, _∙_}
+use mathlib.Core.Logic.{_↔_}
+use mathlib.Core.Bool.{Bool, true, false, _&&_, cond, and-false}
+use Prim.Native.Nat.{ℕ, _+_, _-_, _*_, _/_, _≤_, _<_}
+use native.Mathlib.Nat.{mul-le-mul, mul-le-mul-right, div-lt-iff-lt-mul, mul-comm, div-le-of-le-mul, le-refl, le-trans}
+use native.Mathlib.Omega.{arith}
+use lib.Dec.{leb, ltb, eqb}
+use borrow.Author.Tests.{eqb-true, eqb-false, ltb-true, ltb-false, lt-ltb, le-ltb, leb-true, lt-leb}
+use lib.IntN.{pos, natAbs, _-ℤ_, _*ℤ_}
+use mir.Syntax.{w64}
+use mir.Val.{SFits, toZ, ofZ}
+use mir.Facts.{toZ-ofZ}
+use Rattle.job.specs.Limit.{relaxed, original}
+use Rattle.place.specs.declared.setting.Setting.{Setting}
+use Rattle.place.specs.declared.record.Place.{Place}
+use Rattle.place.specs.declared.inner.choice.Held.{Held}
+use Rattle.place.specs.Setting.{inRelaxed, inOrderV}
+use Rattle.place.specs.Sound.{SoundPlace}
+use Rattle.place.specs.Place.{windowLeft, finishedOf, owedOf, eligibleOf, numeratorOf, overdueOf}
+use Rattle.place.specs.Choice.{Small, distanceOf, nearerOf, betterOf, nobody}
+use Rattle.place.proofs.SignedLaws.{abs-sub, abs-mul, abs-fits, small-pos, difference-most}
+
+module _ {setting : Setting} {q : Place} (s : SoundPlace setting q) where
+  -- the model is the relaxed one, or the original
+  pub not-relaxed : (setting .model ≡ relaxed → ⊥) → setting .model ≡ original
+  not-relaxed h = omega (arith, s .model)
+
+  pub mc-high : q .job .m * q .job .c ≤ 1044480
+  mc-high = mul-le-mul {n₂ = 255} {m₂ = 4096} (omega arith) (omega arith)
+
+  pub pc-high : q .at .p * q .job .c ≤ 1044480
+  pc-high = mul-le-mul {n₂ = 255} {m₂ = 4096} (omega arith) (omega arith)
+
+  pub finished-high : finishedOf setting q ≤ q .job .m
+  unfolding finishedOf
+  finished-high = go (inRelaxed setting) refl
+    where
+      go : (b : Bool) → inRelaxed setting ≡ b → cond b (q .at .u / q .job .c) (q .at .s) ≤ q .job .m
+      go true e = div-le-of-le-mul (q .job .c) (rw mul-comm (s .in-relaxed (eqb-true (setting .model) relaxed e) .u-m))
+      go false e = s .in-original (not-relaxed (eqb-false (setting .model) relaxed e)) .s-m
+
+  pub owed-high : owedOf setting q ≤ 255
+  unfolding owedOf
+  owed-high = omega arith
+
+  pub window-high : windowLeft q ≤ 1044480
+  unfolding windowLeft
+  window-high = mul-le-mul {n₂ = 255} {m₂ = 4096} (omega arith) (omega arith)
+
+  -- at least this period is left
+  pub window-low : q .job .t ≤ windowLeft q
+  unfolding windowLeft
+  window-low =
+      omega
+      (arith, mul-le-mul {n₁ = 1} {m₁ = q .job .t} {n₂ = q .job .k - q .at .p + 1} {m₂ = q .job .t} (omega arith) (le-refl (q .job .t)))
+
+  pub gone-high : q .at .e * owedOf setting q ≤ 1044480
+  gone-high = mul-le-mul {n₂ = 4096} {m₂ = 255} (omega arith) owed-high
+
+  pub numerator-abs : natAbs (numeratorOf setting q) ≤ 2088960
+  unfolding numeratorOf
+  numerator-abs = omega (arith, abs-sub (windowLeft q) (q .at .e * owedOf setting q), window-high, gone-high)
+
+  pub numerator-fits : SFits w64 (numeratorOf setting q)
+  numerator-fits = abs-fits (omega (arith, numerator-abs))
+
+  -- the signed difference that the code computes
+  pub numerator-at :
+      {w m : ℕ} → w ≡ windowLeft q → m ≡ owedOf setting q → toZ w64 w -ℤ toZ w64 (q .at .e * m) ≡ numeratorOf setting q
+  unfolding numeratorOf
+  numerator-at f g =
+      let hw : windowLeft q ≤ 4294967295 = omega (arith, window-high) in
+      let hd : q .at .e * owedOf setting q ≤ 4294967295 = omega (arith, gone-high) in
+      rw (f, g, small-pos hw, small-pos hd)
+
+  -- m' > 0, without a division
+  pub lacks-is : (b : Bool) → inRelaxed setting ≡ b → cond b (ltb (q .at .u) (q .job .m * q .job .c)) (ltb (q .at .s) (q .job .m)) ≡ ltb 0 (owedOf setting q)
+  unfolding owedOf finishedOf
+  lacks-is true e = rw e (same (ltb (q .at .u) (q .job .m * q .job .c)) refl)
+    where
+      part : (q .at .u / q .job .c < q .job .m) ↔ (q .at .u < q .job .m * q .job .c)
+      part = div-lt-iff-lt-mul (omega arith)
+
+      same : (t : Bool) → ltb (q .at .u) (q .job .m * q .job .c) ≡ t → ltb (q .at .u) (q .job .m * q .job .c) ≡ ltb 0 (q .job .m - q .at .u / q .job .c)
+      same true h = h ∙ sym (lt-ltb 0 (q .job .m - q .at .u / q .job .c) (let k = part .1 (ltb-true (q .at .u) (q .job .m * q .job .c) h) in omega arith))
+      same false h =
+          let few : q .at .u / q .job .c < q .job .m → ⊥ = λ k. let l = part .0 k in let n = ltb-false (q .at .u) (q .job .m * q .job .c) h in omega arith in
+          h ∙ sym (le-ltb 0 (q .job .m - q .at .u / q .job .c) (omega arith))
+  lacks-is false e = rw e (same (ltb (q .at .s) (q .job .m)) refl)
+    where
+      same : (t : Bool) → ltb (q .at .s) (q .job .m) ≡ t → ltb (q .at .s) (q .job .m) ≡ ltb 0 (q .job .m - q .at .s)
+      same true h = h ∙ sym (lt-ltb 0 (q .job .m - q .at .s) (let k = ltb-true (q .at .s) (q .job .m) h in omega arith))
+      same false h = h ∙ sym (le-ltb 0 (q .job .m - q .at .s) (let k = ltb-false (q .at .s) (q .job .m) h in omega arith))
+
+  -- the tag's condition without signs, and when it is too early for it
+  pub overdue-is : leb (windowLeft q) ((q .at .e + 1) * owedOf setting q) ≡ overdueOf setting q
+  unfolding overdueOf numeratorOf
+  overdue-is =
+      let product : q .at .e * owedOf setting q + owedOf setting q ≡ (q .at .e + 1) * owedOf setting q = omega arith in
+      rw (difference-most (windowLeft q) (q .at .e * owedOf setting q) (owedOf setting q), product)
+      (go (leb (windowLeft q) ((q .at .e + 1) * owedOf setting q)) refl)
+    where
+      go : (t : Bool) → leb (windowLeft q) ((q .at .e + 1) * owedOf setting q) ≡ t → leb (windowLeft q) ((q .at .e + 1) * owedOf setting q) ≡ (ltb 0 (owedOf setting q) && leb (windowLeft q) ((q .at .e + 1) * owedOf setting q))
+      go false e = rw e (sym (and-false (ltb 0 (owedOf setting q))))
+      go true e =
+          let some : owedOf setting q ≡ 0 → ⊥ =
+          λ none.
+          let h = leb-true (windowLeft q) ((q .at .e + 1) * owedOf setting q) e in
+          omega (arith, window-low, ap ((q .at .e + 1) *_) none)
+          in
+          rw (e, lt-ltb 0 (owedOf setting q) (omega arith))
+
+  owed-most : owedOf setting q ≤ q .job .m
+  unfolding owedOf
+  owed-most = omega arith
+
+  pub too-early : q .at .p + q .job .m ≤ q .job .k → overdueOf setting q ≡ false
+  unfolding windowLeft
+  too-early h =
+      let less : (q .at .e + 1) * owedOf setting q ≤ q .job .t * q .job .m = mul-le-mul (omega arith) owed-most in
+      let more : (q .job .m + 1) * q .job .t ≤ (q .job .k - q .at .p + 1) * q .job .t = mul-le-mul-right (q .job .t) (omega arith) in
+      sym overdue-is ∙ lt-leb (windowLeft q) ((q .at .e + 1) * owedOf setting q) (omega arith)
+
+  pub next-high : (q .at .e + 1) * owedOf setting q ≤ 1044480
+  next-high = mul-le-mul {n₂ = 4096} {m₂ = 255} (omega arith) owed-high
+
+  pub distance-small : (i : ℕ) → Small (distanceOf setting i q)
+  unfolding distanceOf
+  distance-small i = go (inOrderV setting)
+    where
+      go :
+          (b : Bool)
+          → Small
+          (cond b (record { at = i; num = numeratorOf setting q; den = owedOf setting q })
+          (record { at = i; num = pos (windowLeft q - q .at .e); den = 1 }))
+      go true = record { num-high = numerator-abs; den-high = owed-high }
+      go false = record { num-high = omega (arith, window-high); den-high = omega arith }
+
+-- the products that two distances are compared by
+module _ {a b : Held} (s : Small a) (t : Small b) where
+  num-fits : SFits w64 (a .num)
+  num-fits = abs-fits (omega (arith, s .num-high))
+
+  pub cross-fits : SFits w64 (a .num *ℤ pos (b .den))
+  cross-fits =
+      abs-fits
+      (omega (arith, abs-mul (a .num) (b .den), mul-le-mul {n₂ = 2088960} {m₂ = 255} (s .num-high) (t .den-high)))
+
+  pub cross-at : toZ w64 (ofZ w64 (a .num)) *ℤ toZ w64 (b .den) ≡ a .num *ℤ pos (b .den)
+  cross-at =
+      let h : b .den ≤ 4294967295 = omega (arith, t .den-high) in
+      rw (toZ-ofZ num-fits, small-pos h)
+
+pub better-small :
+    {setting : Setting} {q : Place} {best : Held} → SoundPlace setting q → Small best → (i : ℕ) → Small (betterOf setting best i q)
+unfolding betterOf
+better-small {setting} {q} {best} s t i = go (eligibleOf setting q && nearerOf (distanceOf setting i q) best)
+  where
+    go : (b : Bool) → Small (cond b (distanceOf setting i q) best)
+    go true = distance-small s i
+    go false = t
+
+pub nobody-small : Small nobody
+nobody-small = record { num-high = omega arith; den-high = omega arith }

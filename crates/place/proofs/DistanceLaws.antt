@@ -1,0 +1,98 @@
+-- The comparison of distances is a strict weak order where the denominators are positive, and nobody is farther than any.
+use mathlib.Core.Path.{_≡_, refl, sym, ap, _∙_}
+use mathlib.Core.Bool.{true, false}
+use Prim.Native.Nat.{ℕ, zero, suc, _+_, _*_, _<_}
+use native.Mathlib.Nat.{le-refl, le-antisymm, add-zero, zero-add, zero-mul, mul-le-mul-right, mul-lt-mul-of-pos-right, lt-of-mul-lt-mul-right}
+use native.Mathlib.Omega.{arith}
+use lib.Dec.{ltb, leb·suc-suc}
+use lib.IntN.{ℤ, pos, negsuc, negℤ, _*ℤ_}
+use lib.Signed.{ltZ}
+use borrow.Author.Tests.{ltb-true, ltb-false, lt-ltb, le-ltb}
+use Rattle.place.specs.declared.inner.choice.Held.{Held}
+use Rattle.place.specs.Choice.{nearerOf, nobody}
+use Rattle.job.proofs.TestLaws.{clash}
+
+-- an integer as the difference of two naturals
+
+abbrev plus : ℤ → ℕ
+plus (pos n) = n
+plus (negsuc n) = 0
+
+abbrev minus : ℤ → ℕ
+minus (pos n) = 0
+minus (negsuc n) = suc n
+
+plus-neg : (n : ℕ) → plus (negℤ (pos n)) ≡ 0
+plus-neg zero = refl
+plus-neg (suc n) = refl
+
+minus-neg : (n : ℕ) → minus (negℤ (pos n)) ≡ n
+minus-neg zero = refl
+minus-neg (suc n) = refl
+
+plus-mul : (z : ℤ) (n : ℕ) → plus (z *ℤ pos n) ≡ plus z * n
+plus-mul (pos a) n = refl
+plus-mul (negsuc a) n = plus-neg (suc a * n) ∙ sym (zero-mul n)
+
+minus-mul : (z : ℤ) (n : ℕ) → minus (z *ℤ pos n) ≡ minus z * n
+minus-mul (pos a) n = sym (zero-mul n)
+minus-mul (negsuc a) n = minus-neg (suc a * n)
+
+ltZ-is : (x y : ℤ) → ltZ x y ≡ ltb (plus x + minus y) (plus y + minus x)
+ltZ-is (pos a) (pos b) = rw (add-zero a, add-zero b)
+ltZ-is (pos a) (negsuc b) = sym (le-ltb (a + suc b) 0 (omega arith))
+ltZ-is (negsuc a) (pos b) = sym (lt-ltb 0 (b + suc a) (omega arith))
+ltZ-is (negsuc a) (negsuc b) = rw (zero-add (suc a), zero-add (suc b)) (sym (leb·suc-suc (suc b) a))
+
+ltZ-self : (x : ℤ) → ltZ x x ≡ false
+ltZ-self (pos a) = le-ltb a a (le-refl a)
+ltZ-self (negsuc a) = le-ltb a a (le-refl a)
+
+-- neither is less
+ltZ-neither : (x y : ℤ) → ltZ x y ≡ false → ltZ y x ≡ false → x ≡ y
+ltZ-neither (pos a) (pos b) e f = ap pos (le-antisymm (ltb-false b a f) (ltb-false a b e))
+ltZ-neither (pos a) (negsuc b) e f = absurd (clash f refl)
+ltZ-neither (negsuc a) (pos b) e f = absurd (clash e refl)
+ltZ-neither (negsuc a) (negsuc b) e f = ap negsuc (le-antisymm (ltb-false b a e) (ltb-false a b f))
+
+-- the two sides of a comparison, as naturals: a is nearer than b exactly if `side a b` is less than `side b a`
+
+abbrev side : Held → Held → ℕ
+side a b = plus (a .num) * b .den + minus (b .num) * a .den
+
+nearer-is : (a b : Held) → nearerOf a b ≡ ltb (side a b) (side b a)
+unfolding nearerOf
+nearer-is a b =
+    ltZ-is (a .num *ℤ pos (b .den)) (b .num *ℤ pos (a .den))
+    ∙ rw (plus-mul (a .num) (b .den), minus-mul (a .num) (b .den), plus-mul (b .num) (a .den), minus-mul (b .num) (a .den))
+
+module _ (a b : Held) where
+  pub nearer-back : nearerOf a b ≡ true → nearerOf b a ≡ false
+  nearer-back e =
+      let h = ltb-true (side a b) (side b a) (sym (nearer-is a b) ∙ e) in
+      nearer-is b a ∙ le-ltb (side b a) (side a b) (omega arith)
+
+  -- a is nearer than b, and c is not: a is nearer than c
+  pub nearer-through : (c : Held) → 0 < c .den → nearerOf a b ≡ true → nearerOf c b ≡ false → nearerOf a c ≡ true
+  nearer-through c some e f =
+      let h = ltb-true (side a b) (side b a) (sym (nearer-is a b) ∙ e) in
+      let k = ltb-false (side c b) (side b c) (sym (nearer-is c b) ∙ f) in
+      nearer-is a c
+      ∙ lt-ltb (side a c) (side c a)
+      (lt-of-mul-lt-mul-right (b .den)
+      (omega (arith, mul-lt-mul-of-pos-right h some, mul-le-mul-right (a .den) k)))
+
+  -- neither is nearer: they are equal
+  pub neither-nearer : nearerOf a b ≡ false → nearerOf b a ≡ false → a .num *ℤ pos (b .den) ≡ b .num *ℤ pos (a .den)
+  unfolding nearerOf
+  neither-nearer = ltZ-neither (a .num *ℤ pos (b .den)) (b .num *ℤ pos (a .den))
+
+  pub same-nearer : a .num *ℤ pos (b .den) ≡ b .num *ℤ pos (a .den) → nearerOf a b ≡ false
+  unfolding nearerOf
+  same-nearer e = rw e (ltZ-self (b .num *ℤ pos (a .den)))
+
+pub nearer-self : (a : Held) → nearerOf a a ≡ false
+nearer-self a = same-nearer a a refl
+
+pub nobody-farther : (a : Held) → 0 < a .den → nearerOf a nobody ≡ true
+nobody-farther a some = nearer-is a nobody ∙ lt-ltb (side a nobody) (side nobody a) (omega arith)

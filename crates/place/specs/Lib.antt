@@ -1,0 +1,6 @@
+-- What the contracts of `place` say: one place over one slot, and how near it is to its end.
+pub mod Setting
+pub mod Opening
+pub mod Place
+pub mod Choice
+pub mod Sound

@@ -1,0 +1,89 @@
+-- One place over one slot ('One slot, in order').
+use Prim.Native.Nat.{ℕ, _+_, _-_, _*_, _/_}
+use mathlib.Core.Bool.{Bool, true, false, _&&_, not, cond}
+use lib.Dec.{ltb, eqb}
+use lib.IntN.{ℤ, pos, _-ℤ_}
+use lib.Signed.{leZ}
+use Rattle.place.specs.declared.setting.Setting.{Setting}
+use Rattle.place.specs.declared.record.Place.{Place}
+use Rattle.place.specs.declared.inner.service.Outcome.{Outcome}
+use Rattle.place.specs.Setting.{inRelaxed}
+
+-- a place with other counters
+abbrev pub placed : Place → ℕ → ℕ → ℕ → ℕ → ℕ → Bool → Place
+placed q e p u s v tag = record { job = q .job; at = record { e = e; p = p; u = u; s = s; v = v; tag = tag } }
+
+-- 'Write k' = k−p+1'; k'T, the slots from this period's start to the window's end
+unfoldable pub windowLeft : Place → ℕ
+windowLeft q = (q .job .k - q .at .p + 1) * q .job .t
+
+-- 'Finished instances: u divided by C, rounded down' (relaxed); 'Keep s (finished in this window)' (original)
+unfoldable pub finishedOf : Setting → Place → ℕ
+finishedOf setting q = cond (inRelaxed setting) (q .at .u / q .job .c) (q .at .s)
+
+-- 'm' = m minus the instances finished in this window'
+unfoldable pub owedOf : Setting → Place → ℕ
+owedOf setting q = q .job .m - finishedOf setting q
+
+-- 'eligible exactly if u < m times C and u < p times C' (relaxed); 'exactly if s < m and v < C' (original)
+unfoldable pub eligibleOf : Setting → Place → Bool
+eligibleOf setting q =
+    cond (inRelaxed setting)
+    (ltb (q .at .u) (q .job .m * q .job .c) && ltb (q .at .u) (q .at .p * q .job .c))
+    (ltb (q .at .s) (q .job .m) && ltb (q .at .v) (q .job .c))
+
+-- 'Measured from now it is (k'T − e times m') / m', which may be zero or negative': the numerator
+unfoldable pub numeratorOf : Setting → Place → ℤ
+numeratorOf setting q = pos (windowLeft q) -ℤ pos (q .at .e * owedOf setting q)
+
+-- 'm' > 0 before the slot and whose virtual deadline is at most the slot number + 1'
+unfoldable pub overdueOf : Setting → Place → Bool
+overdueOf setting q = ltb 0 (owedOf setting q) && leZ (numeratorOf setting q) (pos (owedOf setting q))
+
+-- 'one more unit to the job chosen'; 'When v reaches C, s grows by one.'
+unfoldable pub servedOf : Setting → Place → Place
+servedOf setting q =
+    let r = q .at in
+    cond (inRelaxed setting)
+    (placed q (r .e) (r .p) (r .u + 1) (r .s) (r .v) (r .tag))
+    (placed q (r .e) (r .p) (r .u) (cond (eqb (r .v + 1) (q .job .c)) (r .s + 1) (r .s)) (r .v + 1) (r .tag))
+
+abbrev pub taggedOf : Place → Place
+taggedOf q = let r = q .at in placed q (r .e) (r .p) (r .u) (r .s) (r .v) true
+
+-- 'Give the slot', or 'tag each job, other than the one chosen, that ..'
+unfoldable pub workedOf : Setting → Place → Bool → Bool → Place
+workedOf setting q chosen late = cond chosen (servedOf setting q) (cond late (taggedOf q) q)
+
+-- the slot is the last of its period, and of its window
+unfoldable pub windowEnds : Place → Bool
+windowEnds q = eqb (q .at .e + 1) (q .job .t) && eqb (q .at .p) (q .job .k)
+
+-- 'A window is short exactly if it ends with m' > 0.'
+unfoldable pub shortOf : Setting → Place → Bool
+shortOf setting q = windowEnds q && ltb 0 (owedOf setting q)
+
+-- 'Where e reaches T the period ends; where the k-th period ends, the window ends. .. Then tag and service counters are cleared and p is 1.'
+-- 'At a period's end v becomes 0'
+unfoldable pub turnedOf : Place → Place
+turnedOf q =
+    let r = q .at in
+    cond (ltb (r .e + 1) (q .job .t))
+    (placed q (r .e + 1) (r .p) (r .u) (r .s) (r .v) (r .tag))
+    (cond (ltb (r .p) (q .job .k))
+    (placed q 0 (r .p + 1) (r .u) (r .s) 0 (r .tag))
+    (placed q 0 1 0 0 0 false))
+
+-- 'the set of jobs first tagged in their window'
+unfoldable pub firstTagged : Setting → Place → Bool → Bool
+firstTagged setting q chosen = not chosen && overdueOf setting q && not (q .at .tag)
+
+-- the place after the slot; whether it is first tagged in it; whether its window ends short
+unfoldable pub movedOf : Setting → Place → Bool → Outcome
+movedOf setting q chosen =
+    let given = workedOf setting q chosen (overdueOf setting q) in
+    record {
+      place = turnedOf given;
+      tagged = firstTagged setting q chosen;
+      short = shortOf setting given;
+    }

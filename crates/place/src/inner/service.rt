@@ -1,0 +1,200 @@
+// One place over one slot: what it is owed, whether it may be served, and what the slot makes of it.
+ghost use mathlib.Core.Path.{_≡_};
+ghost use mathlib.Core.Bool.{true};
+ghost use lib.Dec.{ltb};
+ghost use Rattle.place.specs.Sound.{SoundPlace};
+ghost use Rattle.place.specs.Place.{finishedOf, owedOf, windowLeft, eligibleOf, numeratorOf, overdueOf, firstTagged, servedOf, taggedOf, workedOf, windowEnds, turnedOf, shortOf, movedOf};
+use crate::record::Place;
+use crate::record::Progress;
+use crate::setting::Setting;
+use job::Job;
+
+// A place after the slot, and the sets that it goes into.
+pub struct Outcome {
+    pub place: Place,
+    pub tagged: bool,
+    pub short: bool,
+}
+
+// The instances finished in this window.
+fn finished(setting: Setting, q: Place) -> u32
+    requires { ⌜ SoundPlace setting q ⌝ }
+    ensures { λ r. ⌜ r ≡ finishedOf setting q ⌝ }
+{
+    if setting.model == Job::RELAXED {
+        return q.at.u / q.job.c;
+    }
+    q.at.s
+}
+
+// m', the instances that the window still lacks.
+pub(crate) fn owed(setting: Setting, q: Place) -> u32
+    requires { ⌜ SoundPlace setting q ⌝ }
+    ensures { λ r. ⌜ r ≡ owedOf setting q ⌝ }
+{
+    q.job.m - finished(setting, q)
+}
+
+// k'T, the slots from this period's start to the window's end.
+pub(crate) fn window_left(setting: Setting, q: Place) -> u32
+    requires { ⌜ SoundPlace setting q ⌝ }
+    ensures { λ r. ⌜ r ≡ windowLeft q ⌝ }
+{
+    (q.job.k - q.at.p + 1) * q.job.t
+}
+
+// 'u < m times C and u < p times C' is u < (the less of m and p) times C: one product.
+pub(crate) fn eligible(setting: Setting, q: Place) -> bool
+    requires { ⌜ SoundPlace setting q ⌝ }
+    ensures { λ r. ⌜ r ≡ eligibleOf setting q ⌝ }
+{
+    if setting.model == Job::RELAXED {
+        let most = if q.at.p < q.job.m { q.at.p } else { q.job.m };
+        return q.at.u < most * q.job.c;
+    }
+    (q.at.s < q.job.m) & (q.at.v < q.job.c)
+}
+
+// k'T − e m', the numerator over m' of the distance to the virtual deadline.
+pub(crate) fn numerator(setting: Setting, q: Place) -> i64
+    requires { ⌜ SoundPlace setting q ⌝ }
+    ensures { λ r. ⌜ r ≡ numeratorOf setting q ⌝ }
+{
+    let ahead = window_left(setting, q);
+    let gone = q.at.e * owed(setting, q);
+    (ahead as i64) - (gone as i64)
+}
+
+// Whether m' > 0, without the division that m' may take.
+fn lacks(setting: Setting, q: Place) -> bool
+    requires { ⌜ SoundPlace setting q ⌝ }
+    ensures { λ r. ⌜ r ≡ ltb 0 (owedOf setting q) ⌝ }
+{
+    if setting.model == Job::RELAXED {
+        return q.at.u < q.job.m * q.job.c;
+    }
+    q.at.s < q.job.m
+}
+
+// Whether m' > 0 and the virtual deadline is at most the next slot's number: k'T ≤ (e + 1) m', which
+// no m' = 0 meets.
+fn overdue(setting: Setting, q: Place) -> bool
+    requires { ⌜ SoundPlace setting q ⌝ }
+    ensures { λ r. ⌜ r ≡ overdueOf setting q ⌝ }
+{
+    window_left(setting, q) <= (q.at.e + 1) * owed(setting, q)
+}
+
+// Whether the slot tags the place for the first time in its window. While more than m periods are
+// left, this one counted, no deadline is that near.
+fn first_tagged(setting: Setting, q: Place, chosen: bool) -> bool
+    requires { ⌜ SoundPlace setting q ⌝ }
+    ensures { λ r. ⌜ r ≡ firstTagged setting q chosen ⌝ }
+{
+    if chosen | q.at.tag | (q.at.p + q.job.m <= q.job.k) {
+        return false;
+    }
+    overdue(setting, q)
+}
+
+// One more unit.
+fn served(setting: Setting, q: Place) -> Place
+    requires { ⌜ SoundPlace setting q ⌝ }
+    requires { ⌜ eligibleOf setting q ≡ true ⌝ }
+    ensures { λ r. ⌜ r ≡ servedOf setting q ⌝ }
+{
+    let mut next = q;
+    if setting.model == Job::RELAXED {
+        let u = q.at.u + 1;
+        next.at.u = u;
+        return next;
+    }
+    let v = q.at.v + 1;
+    next.at.v = v;
+    if v == q.job.c {
+        let s = q.at.s + 1;
+        next.at.s = s;
+    }
+    next
+}
+
+fn tagged(q: Place) -> Place
+    ensures { λ r. ⌜ r ≡ taggedOf q ⌝ }
+{
+    let mut next = q;
+    next.at.tag = true;
+    next
+}
+
+// The service or the tag of the slot, before the slot passes.
+fn worked(setting: Setting, q: Place, chosen: bool, late: bool) -> Place
+    requires { ⌜ SoundPlace setting q ⌝ }
+    requires { ⌜ (chosen ≡ true → eligibleOf setting q ≡ true) ⌝ }
+    ensures { λ r. ⌜ r ≡ workedOf setting q chosen late ⌝ }
+{
+    if chosen {
+        return served(setting, q);
+    }
+    if late {
+        return tagged(q);
+    }
+    q
+}
+
+// Whether this slot is the window's last.
+fn window_ends(setting: Setting, q: Place) -> bool
+    requires { ⌜ SoundPlace setting q ⌝ }
+    ensures { λ r. ⌜ r ≡ windowEnds q ⌝ }
+{
+    (q.at.e + 1 == q.job.t) & (q.at.p == q.job.k)
+}
+
+// 'A window is short exactly if it ends with m' > 0.'
+fn is_short(setting: Setting, q: Place) -> bool
+    requires { ⌜ SoundPlace setting q ⌝ }
+    ensures { λ r. ⌜ r ≡ shortOf setting q ⌝ }
+{
+    window_ends(setting, q) & lacks(setting, q)
+}
+
+// The slot passes: 'Where e reaches T the period ends; where the k-th period ends, the window ends.'
+fn turned(setting: Setting, q: Place) -> Place
+    requires { ⌜ SoundPlace setting q ⌝ }
+    ensures { λ r. ⌜ r ≡ turnedOf q ⌝ }
+{
+    let mut next = q;
+    let e = q.at.e + 1;
+    if e < q.job.t {
+        next.at.e = e;
+        return next;
+    }
+    next.at.e = 0;
+    next.at.v = 0;
+    if q.at.p < q.job.k {
+        let p = q.at.p + 1;
+        next.at.p = p;
+        return next;
+    }
+    next.at.p = 1;
+    next.at.u = 0;
+    next.at.s = 0;
+    next.at.tag = false;
+    next
+}
+
+// All that one slot does to one place.
+pub fn moved(setting: Setting, q: Place, chosen: bool) -> Outcome
+    requires { ⌜ SoundPlace setting q ⌝ }
+    requires { ⌜ (chosen ≡ true → eligibleOf setting q ≡ true) ⌝ }
+    ensures { λ r. ⌜ r ≡ movedOf setting q chosen ⌝ }
+{
+    let tagged = first_tagged(setting, q, chosen);
+    let given = worked(setting, q, chosen, tagged);
+    let short = is_short(setting, given);
+    let place = turned(setting, given);
+    Outcome {
+        place,
+        tagged,
+        short,
+    }
+}

@@ -1,0 +1,56 @@
+// A job in a run, and how far its window has come.
+ghost use mathlib.Core.Path.{_≡_};
+ghost use Rattle.place.specs.Opening.{blank, opened};
+use job::Job;
+
+// e slots gone in the period, which is the window's p-th; the service so far: u slots of this
+// window (relaxed), or s finished in this window and v slots of this period (original); the tag.
+pub struct Progress {
+    pub e: u32,
+    pub p: u32,
+    pub u: u32,
+    pub s: u32,
+    pub v: u32,
+    pub tag: bool,
+}
+
+pub struct Place {
+    pub job: Job,
+    pub at: Progress,
+}
+
+impl Place {
+    // A place of no job.
+    pub fn blank() -> Place
+        ensures { λ r. ⌜ r ≡ blank ⌝ }
+    {
+        Place {
+            job: Job::none(),
+            at: Progress {
+                e: 0,
+                p: 0,
+                u: 0,
+                s: 0,
+                v: 0,
+                tag: false,
+            },
+        }
+    }
+
+    // A job at the opening of its window.
+    pub fn opened(job: Job) -> Place
+        ensures { λ r. ⌜ r ≡ opened job ⌝ }
+    {
+        Place {
+            job,
+            at: Progress {
+                e: 0,
+                p: 1,
+                u: 0,
+                s: 0,
+                v: 0,
+                tag: false,
+            },
+        }
+    }
+}

@@ -1,0 +1,24 @@
+// How a run is run: its order and its service model, as numbers, so that a state of any content
+// can be handed in and refused.
+ghost use mathlib.Core.Path.{_≡_};
+ghost use Rattle.place.specs.Setting.{settingAllowed};
+use job::Job;
+
+pub struct Setting {
+    pub order: u32,
+    pub model: u32,
+}
+
+impl Setting {
+    // 'Order 0 is V, 1 is W'; the model's numbers stand at `Job`.
+    pub const V: u32 = 0;
+
+    pub const W: u32 = 1;
+
+    // Row 15.
+    pub fn allowed(self) -> bool
+        ensures { λ r. ⌜ r ≡ settingAllowed self ⌝ }
+    {
+        (self.order <= Setting::W) & (self.model <= Job::ORIGINAL)
+    }
+}

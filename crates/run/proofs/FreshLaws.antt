@@ -12,14 +12,13 @@ use lib.Seq.{getD-set-same, getD-set-other}
 use borrow.Author.Tests.{ltb-true, ltb-false}
 use Rattle.job.specs.declared.record.Job.{Job}
 use Rattle.job.specs.declared.list.JobList.{JobList}
-use Rattle.job.specs.Limit.{countMost, original}
-use Rattle.job.specs.Sound.{SoundJob, SoundList}
+use Rattle.job.specs.Limit.{countMost}
+use Rattle.job.specs.Sound.{SoundList}
 use Rattle.job.specs.Check.{jobAt}
 use Rattle.place.specs.declared.setting.Setting.{Setting}
 use Rattle.place.specs.declared.record.Place.{Place}
 use Rattle.place.specs.Setting.{settingAllowed}
 use Rattle.place.specs.Opening.{blank, opened}
-use Rattle.place.specs.Sound.{SoundPlace}
 use Rattle.run.specs.declared.state.State.{State}
 use Rattle.run.specs.State.{placeAt, zeros, freshUpto, freshOf}
 use Rattle.run.specs.Sound.{SoundState}

@@ -1,6 +1,6 @@
 -- The loop that moves every place on by one slot.
 use mathlib.Core.Path.{_≡_, refl, ap, subst, _∙_}
-use mathlib.Core.Bool.{Bool, cond}
+use mathlib.Core.Bool.{cond}
 use Prim.Native.Nat.{ℕ, _+_, _*_, _^_, _≤_, _<_}
 use native.Mathlib.Nat.{le-refl, pow-suc, pow-le-pow-right}
 use native.Mathlib.Numerals.{add-one}

@@ -15,7 +15,7 @@ use Rattle.place.specs.declared.record.Place.{Place}
 use Rattle.run.specs.declared.state.State.{State}
 use Rattle.run.specs.State.{placeAt, freshOf}
 use Rattle.run.specs.Slot.{countUpto, turnOf}
-use Rattle.run.specs.Run.{afterSlots, choicesOf}
+use Rattle.run.specs.Run.{afterSlots}
 use Rattle.run.specs.Bytes.{slotsOf, givenIn, idleIn, finishedIn}
 
 -- after n slots: the bytes since the open window of a job opened, since its open period opened, and the periods begun in the window

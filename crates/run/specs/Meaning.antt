@@ -19,13 +19,13 @@ use Rattle.place.specs.Choice.{distanceOf, nearerOf}
 use Rattle.run.specs.declared.state.State.{State}
 use Rattle.run.specs.declared.answer.StepAnswer.{StepAnswer}
 use Rattle.run.specs.declared.answer.Choice.the-variants.{Given, Idle}
-use Rattle.run.specs.State.{clockMost, placeAt, freshOf, zeros}
+use Rattle.run.specs.State.{clockMost, placeAt, freshOf}
 use Rattle.run.specs.Choice.{chosenOf}
 use Rattle.run.specs.Slot.{turnOf}
 use Rattle.run.specs.Range.{stateInRange}
 use Rattle.run.specs.Sound.{SoundState}
 use Rattle.run.specs.Answer.{toldStep}
-use Rattle.run.specs.Step.{startTold, startState, stepTold, stepState}
+use Rattle.run.specs.Step.{startTold, startState, stepTold}
 use Rattle.run.specs.Run.{afterSlots, choicesOf}
 use Rattle.run.specs.History.{member, RunHistory}
 

@@ -1,6 +1,5 @@
 -- Starting a run, and one slot of it, for every input.
-use Prim.Native.Nat.{ℕ}
-use mathlib.Core.Bool.{Bool, cond}
+use mathlib.Core.Bool.{cond}
 use mathlib.Core.List.{[]}
 use lib.Dec.{eqb}
 use Rattle.job.specs.declared.list.JobList.{JobList}

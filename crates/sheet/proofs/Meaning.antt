@@ -13,7 +13,7 @@ use borrow.Author.Tests.{eqb-true, ltb-true, eq-eqb, lt-ltb}
 use Rattle.job.specs.declared.list.JobList.{JobList}
 use Rattle.job.specs.Told.{Told, row, passed}
 use Rattle.job.specs.Check.{listTold, jobAt}
-use Rattle.job.specs.Sound.{FaultOf, t-fault, c-fault, k-fault, m-fault, LowestFault}
+use Rattle.job.specs.Sound.{FaultOf, t-fault, c-fault, k-fault, m-fault}
 use Rattle.job.specs.declared.record.Job.{Job}
 use Rattle.job.proofs.ToldLaws.{apart, valued}
 use Rattle.job.proofs.TestLaws.{clash}

@@ -1,7 +1,7 @@
 -- What a sheet holds once read, and its own tests: 16, then 1 to 6.
 use Prim.Native.Nat.{ℕ}
-use mathlib.Core.Bool.{Bool, _||_, cond}
-use mathlib.Core.List.{List, []}
+use mathlib.Core.Bool.{_||_, cond}
+use mathlib.Core.List.{[]}
 use lib.Dec.{ltb, eqb}
 use Rattle.job.specs.Told.{Told, row}
 use Rattle.job.specs.Check.{listTold}

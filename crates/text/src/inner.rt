@@ -1,6 +1,6 @@
 // Writers of text behind a check of the room already made.
 ghost use mathlib.Core.Path.{_≡_};
-ghost use Prim.Native.Nat.{_+_, _*_, _≤_, _<_, _^_};
+ghost use Prim.Native.Nat.{_+_, _≤_, _<_};
 ghost use lib.ListN.{length};
 ghost use Rattle.text.specs.Written.{written};
 ghost use Rattle.text.specs.Decimal.{decimalOf, digitsOf};

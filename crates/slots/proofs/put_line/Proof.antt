@@ -1,5 +1,5 @@
 -- `put_line` is safe: a line has room in the buffer, or the buffer is emptied first. Assumes nothing.
-use lib.ListN.{length, length-take}
+use lib.ListN.{length-take}
 use native.Mathlib.Omega.{arith}
 use borrow.Author.Needs.{needs}
 use Rattle.slots.proofs.put_line.Statement.{statement}

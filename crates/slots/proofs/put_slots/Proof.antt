@@ -2,7 +2,6 @@
 use mathlib.Core.Path.{_≡_}
 use Prim.Native.Nat.{_≤_, _-_}
 use lib.ListN.{length}
-use native.Mathlib.Omega.{arith}
 use borrow.Author.Needs.{needs}
 use Rattle.slots.proofs.put_slots.Statement.{statement}
 use Rattle.slots.proofs.put_slots.Tie as tie

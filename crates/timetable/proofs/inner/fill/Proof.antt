@@ -1,9 +1,9 @@
 -- `fill` meets its contract. The outer loop's invariant: n bytes are written, and places, totals and choice are those of the
 -- state after n slots. The inner loop's: the places before `i` are moved on, and `best` is the nearest of them. Assumes nothing.
-use mathlib.Core.Path.{_≡_, refl, sym, ap, _∙_}
+use mathlib.Core.Path.{_≡_, refl}
 use Prim.Native.Nat.{_-_}
 use native.Mathlib.Omega.{arith}
-use lib.ListN.{length, length-set}
+use lib.ListN.{length}
 use borrow.Author.Needs.{needs}
 use Rattle.timetable.proofs.FillLaws.{Ready, Filling, Passing, fill-starts, fill-chosen, fill-ready, fill-totals, fill-more, pass-starts, pass-sound, pass-fair, pass-counts, pass-moved-sound, pass-more, pass-done, done-state, done-bytes}
 use Rattle.timetable.proofs.inner.fill.Statement.{statement}

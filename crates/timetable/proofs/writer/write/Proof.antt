@@ -1,9 +1,7 @@
 -- `write` meets its contract: rows 10, 12 and 11, or the filled part put back into its place. Assumes nothing.
 use mathlib.Core.Path.{_≡_, refl, sym, ap, _∙_}
-use mathlib.Core.Bool.{true}
 use mathlib.Core.List.{List, _++_}
 use Prim.Native.Nat.{ℕ, _+_, _-_, _≤_}
-use native.Mathlib.Nat.{min-eq-left}
 use native.Mathlib.Omega.{arith}
 use lib.ListN.{length, take, drop, length-take, length-drop}
 use lib.Seq.{drop-drop}
@@ -14,7 +12,6 @@ use Rattle.job.specs.declared.refusal.Checked.{Checked}
 use Rattle.job.specs.declared.refusal.Checked.the-variants.{Refused}
 use Rattle.job.specs.Told.{told, toldChecked}
 use Rattle.run.specs.declared.state.State.{State}
-use Rattle.run.specs.Range.{stateInRange}
 use Rattle.run.specs.Run.{afterSlots, choicesOf}
 use Rattle.run.proofs.RangeLaws.{range-exactly}
 use Rattle.run.proofs.RunLaws.{choices-long}

@@ -1,14 +1,12 @@
 -- `JobList::check` meets its contract. The loop's invariant: the jobs before `at` pass. Assumes nothing.
 use mathlib.Core.Path.{_≡_, refl, sym, _∙_, ap}
-use mathlib.Core.Bool.{Bool, true, false}
-use Prim.Native.Nat.{ℕ, _+_, _-_, _≤_}
+use mathlib.Core.Bool.{true, false}
+use Prim.Native.Nat.{_-_, _≤_}
 use native.Mathlib.Omega.{arith}
-use lib.Dec.{eqb}
 use borrow.Author.Needs.{needs}
-use borrow.Author.Tests.{eq-eqb, ne-eqb, lt-ltb, le-ltb}
-use Rattle.job.specs.Told.{Told, told, toldChecked, passed}
-use Rattle.job.specs.Check.{jobAt, jobTold, jobsTold, listTold}
-use Rattle.job.proofs.ToldLaws.{told-refuses}
+use borrow.Author.Tests.{eq-eqb, ne-eqb, lt-ltb}
+use Rattle.job.specs.Told.{toldChecked, passed}
+use Rattle.job.specs.Check.{jobsTold}
 use Rattle.job.proofs.CheckLaws.{no-job-told, one-more, by-count, by-jobs, found}
 use Rattle.job.proofs.list.JobList.check.Statement.{statement}
 use Rattle.job.proofs.list.JobList.check.Tie as tie

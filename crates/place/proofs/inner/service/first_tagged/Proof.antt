@@ -8,7 +8,7 @@ use borrow.Author.Tests.{leb-true}
 use Rattle.place.specs.declared.setting.Setting.{Setting}
 use Rattle.place.specs.declared.record.Place.{Place}
 use Rattle.place.specs.Sound.{SoundPlace}
-use Rattle.place.specs.Place.{overdueOf, firstTagged}
+use Rattle.place.specs.Place.{firstTagged}
 use Rattle.place.proofs.BoundLaws.{too-early}
 use Rattle.place.proofs.CaseLaws.{first-by}
 use Rattle.place.proofs.inner.service.first_tagged.Statement.{statement}

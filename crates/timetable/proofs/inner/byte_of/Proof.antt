@@ -1,5 +1,4 @@
 -- `byte_of` meets its contract. Assumes nothing.
-use mathlib.Core.Path.{refl}
 use borrow.Author.Needs.{needs}
 use borrow.Author.Tests.{eq-eqb, ne-eqb}
 use Rattle.run.specs.Slot.{choiceOf}

@@ -1,6 +1,6 @@
 -- `fill` meets its contract. The outer loop's invariant: n bytes are written, and places, totals and choice are those of the
 -- state after n slots. The inner loop's: the places before `i` are moved on, and `best` is the nearest of them. Assumes nothing.
-use mathlib.Core.Path.{_≡_, refl}
+use mathlib.Core.Path.{_≡_}
 use Prim.Native.Nat.{_-_}
 use native.Mathlib.Omega.{arith}
 use lib.ListN.{length}

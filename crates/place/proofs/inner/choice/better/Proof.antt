@@ -1,5 +1,5 @@
 -- `better` meets its contract. Assumes nothing.
-use mathlib.Core.Path.{refl, sym, _∙_}
+use mathlib.Core.Path.{sym, _∙_}
 use borrow.Author.Needs.{needs}
 use Rattle.place.specs.Choice.{betterOf}
 use Rattle.place.proofs.BoundLaws.{distance-small}

@@ -1,5 +1,4 @@
 -- `nearer` meets its contract: no product of two small distances wraps. Assumes nothing.
-use mathlib.Core.Path.{refl}
 use borrow.Author.Needs.{needs}
 use mir.Facts.{toZ-ofZ}
 use Rattle.place.specs.Choice.{nearerOf}

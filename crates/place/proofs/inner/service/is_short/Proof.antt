@@ -1,5 +1,4 @@
 -- `is_short` meets its contract. Assumes nothing.
-use mathlib.Core.Path.{refl}
 use borrow.Author.Needs.{needs}
 use Rattle.place.specs.Place.{shortOf}
 use Rattle.place.proofs.inner.service.is_short.Statement.{statement}

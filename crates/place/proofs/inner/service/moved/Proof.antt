@@ -1,5 +1,5 @@
 -- `moved` meets its contract: the place stays sound under the service and the tag. Assumes nothing.
-use mathlib.Core.Path.{refl, ap, _∙_}
+use mathlib.Core.Path.{ap, _∙_}
 use mathlib.Core.Bool.{Bool}
 use borrow.Author.Needs.{needs}
 use Rattle.place.specs.Place.{workedOf, movedOf}

@@ -1,5 +1,4 @@
 -- `numerator` meets its contract: the signed difference of two small numbers. Assumes nothing.
-use mathlib.Core.Path.{refl}
 use native.Mathlib.Omega.{arith}
 use borrow.Author.Needs.{needs}
 use mir.Facts.{toZ-ofZ}

@@ -1,5 +1,4 @@
 -- `overdue` meets its contract: the fraction without its sign. Assumes nothing.
-use mathlib.Core.Path.{refl}
 use native.Mathlib.Omega.{arith}
 use borrow.Author.Needs.{needs}
 use Rattle.place.proofs.BoundLaws.{next-high, overdue-is}

@@ -1,5 +1,5 @@
 -- `worked` meets its contract. Assumes nothing.
-use mathlib.Core.Path.{refl, _∙_}
+use mathlib.Core.Path.{_∙_}
 use borrow.Author.Needs.{needs}
 use Rattle.place.specs.Place.{workedOf}
 use Rattle.place.proofs.inner.service.worked.Statement.{statement}

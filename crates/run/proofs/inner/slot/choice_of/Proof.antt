@@ -1,5 +1,4 @@
 -- `choice_of` meets its contract. Assumes nothing.
-use mathlib.Core.Path.{refl}
 use borrow.Author.Tests.{eq-eqb, ne-eqb}
 use Rattle.run.specs.Slot.{choiceOf}
 use Rattle.run.proofs.inner.slot.choice_of.Statement.{statement}

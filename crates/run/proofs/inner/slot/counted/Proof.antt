@@ -1,5 +1,4 @@
 -- `counted` meets its contract. Assumes nothing.
-use mathlib.Core.Path.{refl}
 use borrow.Author.Needs.{needs}
 use Rattle.run.proofs.inner.slot.counted.Statement.{statement}
 use Rattle.run.proofs.inner.slot.counted.Tie as tie

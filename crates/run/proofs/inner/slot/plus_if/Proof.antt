@@ -1,5 +1,4 @@
 -- `plus_if` meets its contract. Assumes nothing.
-use mathlib.Core.Path.{refl}
 use borrow.Author.Needs.{needs}
 use Rattle.run.proofs.inner.slot.plus_if.Statement.{statement}
 use Rattle.run.proofs.inner.slot.plus_if.Tie as tie

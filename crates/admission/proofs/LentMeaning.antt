@@ -4,11 +4,10 @@ use mathlib.Core.Bool.{Bool, true, false}
 use mathlib.Core.Logic.{_↔_}
 use mathlib.Core.List.{List, []}
 use Prim.Native.Nat.{ℕ, zero, suc, _≤_, _<_, min}
-use native.Mathlib.Nat.{min-eq-left, min-le-right, lt-irrefl}
+use native.Mathlib.Nat.{min-eq-left, min-le-right}
 use native.Mathlib.Omega.{arith}
 use lib.Dec.{ltb}
-use lib.ListN.{length, set, length-set}
-use lib.Seq.{getD-set-same, getD-set-other}
+use lib.ListN.{length}
 use borrow.Author.Tests.{ltb-true, ltb-false}
 use Rattle.job.specs.declared.record.Job.{Job}
 use Rattle.job.specs.declared.list.JobList.{JobList}
@@ -18,44 +17,17 @@ use Rattle.job.specs.Check.{noJob, jobAt, jobsTold, listTold}
 use Rattle.admission.specs.Cycle.{cycleUpto}
 use Rattle.admission.specs.Load.{loadUpto}
 use Rattle.admission.specs.Verdict.{verdictTold}
-use Rattle.admission.specs.Lent.{gatherUpto, listOf, admitOf}
+use Rattle.admission.specs.Lent.{listOf, admitOf}
 use Rattle.admission.specs.LentMeaning.{CountIsLength, ArrayHolds, LentRowOneExactly, LentRowTwoExactly, LentAsByValue}
+use Rattle.job.proofs.FilledLaws.{filled-at}
 use Rattle.admission.proofs.VerdictLaws.{verdict-strange}
 use Rattle.admission.proofs.Meaning.{row-one-exactly, row-two-exactly}
 
--- the first n jobs in the array
-count-upto : (xs : List Job) (n : ℕ) → gatherUpto xs n .count ≡ length xs
-unfolding gatherUpto
-count-upto xs zero = refl
-count-upto xs (suc n) = count-upto xs n
-
-length-upto : (xs : List Job) (n : ℕ) → length (gatherUpto xs n .jobs) ≡ countMost
-unfolding gatherUpto
-length-upto xs zero = refl
-length-upto xs (suc n) = length-set (gatherUpto xs n .jobs) n (jobAt xs n) ∙ length-upto xs n
-
-at-upto : (xs : List Job) (n i : ℕ) → i < n → n ≤ countMost → jobAt (gatherUpto xs n .jobs) i ≡ jobAt xs i
-unfolding gatherUpto
-at-upto xs zero i less most = absurd (lt-irrefl i (omega arith))
-at-upto xs (suc n) i less most = go (ltb i n) refl (λ below. at-upto xs n i below (omega arith))
-  where
-    before : List Job
-    before = gatherUpto xs n .jobs
-
-    go : (t : Bool) → ltb i n ≡ t → (i < n → jobAt before i ≡ jobAt xs i) → jobAt (set before n (jobAt xs n)) i ≡ jobAt xs i
-    go true e held =
-        let below = ltb-true i n e in
-        getD-set-other before n i (jobAt xs n) noJob (omega arith) ∙ held below
-    go false e held =
-        let last : i ≡ n = omega (arith, ltb-false i n e) in
-        let room : n < length before = omega (arith, length-upto xs n) in
-        ap (jobAt (set before n (jobAt xs n))) last ∙ getD-set-same before n (jobAt xs n) noJob room ∙ ap (jobAt xs) (sym last)
-
 pub count-is-length : CountIsLength
-count-is-length xs = count-upto xs _
+count-is-length xs = refl
 
 pub array-holds : ArrayHolds
-array-holds xs i less = at-upto xs _ i less (min-le-right (length xs) countMost)
+array-holds xs i less = filled-at noJob (jobAt xs) _ i less (min-le-right (length xs) countMost)
 
 pub lent-row-one-exactly : LentRowOneExactly
 lent-row-one-exactly xs model =

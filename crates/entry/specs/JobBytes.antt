@@ -1,11 +1,10 @@
 -- 'job bytes, 6 a job: C and T (16 bits, low byte first), m, k': a list of jobs from bytes of any length.
-use Prim.Native.Nat.{ℕ, zero, suc, _+_, _*_, _/_, min}
+use Prim.Native.Nat.{ℕ, _+_, _*_, _/_}
 use mathlib.Core.List.{List}
-use lib.ListN.{length, getD, set, replicate}
+use lib.ListN.{length, getD}
 use Rattle.job.specs.declared.record.Job.{Job}
 use Rattle.job.specs.declared.list.JobList.{JobList}
-use Rattle.job.specs.Limit.{countMost}
-use Rattle.job.specs.Check.{noJob}
+use Rattle.job.specs.Filled.{listBy}
 
 abbrev pub byteAt : List ℕ → ℕ → ℕ
 byteAt bytes i = getD bytes i 0
@@ -23,10 +22,6 @@ jobFrom bytes i =
       k = byteAt bytes (i * 6 + 5);
     }
 
--- the first n jobs in their records
-unfoldable pub jobsUpto : List ℕ → ℕ → List Job
-jobsUpto bytes zero = replicate countMost noJob
-jobsUpto bytes (suc n) = set (jobsUpto bytes n) n (jobFrom bytes n)
-
+-- of more than 16 jobs the first 16 are read
 abbrev pub listFrom : List ℕ → JobList
-listFrom bytes = record { jobs = jobsUpto bytes (min (length bytes / 6) countMost); count = length bytes / 6 }
+listFrom bytes = listBy (jobFrom bytes) (length bytes / 6)

@@ -3,6 +3,6 @@ pub mod Limit
 pub mod Window
 pub mod Told
 pub mod Check
-pub mod Empty
+pub mod Filled
 pub mod Sound
 pub mod Meaning

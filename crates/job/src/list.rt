@@ -1,7 +1,7 @@
 // A list of jobs by value: 16 records and a count. Records at and past the count are never read.
 ghost use mathlib.Core.Path.{_≡_};
 ghost use Rattle.job.specs.Check.{listTold};
-ghost use Rattle.job.specs.Empty.{emptyList};
+ghost use Rattle.job.specs.Filled.{emptyList};
 ghost use Rattle.job.specs.Told.{toldChecked};
 use crate::record::Job;
 use crate::refusal::Checked;

@@ -7,14 +7,17 @@ use Rattle.job.proofs.ToldLaws.{checked-one-to-one}
 use Rattle.admission.proofs.AnswerLaws.{admission-one-to-one}
 use Rattle.admission.proofs.DivisorLaws.{divisor-unique}
 use Rattle.run.proofs.AnswerLaws.{step-one-to-one}
-use Rattle.promises.specs.Unique.{Unique, JobCheckUnique, ListCheckUnique, DivisorUnique, VerdictUnique, StartUnique, StepUnique, WriteUnique, Left, AdmitUnique, ReadUnique, LineUnique, AdmitEntryUnique, FillEntryUnique}
+use Rattle.promises.specs.Unique.{Unique, ValueUnique, JobCheckUnique, ListCheckUnique, DivisorUnique, VerdictUnique, StartUnique, StepUnique, WriteUnique, Left, AdmitUnique, ReadUnique, LineUnique, AdmitEntryUnique, FillEntryUnique}
 
 -- a result fixed by an equation
-pub fixed : {A : Type 0} (x : A) → Unique (λ (r : A). r ≡ x)
+fixed : {A : Type 0} (x : A) → Unique (λ (r : A). r ≡ x)
 fixed x a b e f = e ∙ sym f
 
+pub value-unique : ValueUnique
+value-unique A = fixed
+
 -- an answer fixed by what it tells, where telling is one-to-one
-pub told-fixed :
+told-fixed :
     {A B : Type 0} (f : A → B) → ((a b : A) → f a ≡ f b → a ≡ b) → (x : B) → Unique (λ (r : A). f r ≡ x)
 told-fixed f injective x a b e g = injective a b (e ∙ sym g)
 

@@ -36,6 +36,11 @@ pub record Left (A : Type 0) : Type 0 where
   pub result : A
   pub bytes : List ℕ
 
+-- an operation whose result is equal to a value by its contract: `Job::none`, `JobList::empty`, the three `number`s, `Admission::cycle` and
+-- `load`, `Setting::allowed`, `Place::blank` and `opened`, `State::zeros`, `fresh` and `in_range`, `Sheet::blank`
+abbrev pub ValueUnique : Type 1
+ValueUnique = (A : Type 0) (x : A) → Unique (λ (r : A). r ≡ x)
+
 -- `Job::check`, `JobList::check`
 abbrev pub JobCheckUnique : Type 0
 JobCheckUnique = (at : ℕ) (j : Job) → Unique (λ (r : Checked). toldChecked r ≡ jobTold at j)
@@ -69,7 +74,7 @@ WriteUnique =
     × (r .result .state ≡ writeState s (length bytes) offset n)
     × (r .bytes ≡ writeBytes s bytes offset n))
 
--- `admit`, on a lent slice of job structs
+-- `admit`, on a lent slice of job structs, and `admit_first`
 abbrev pub AdmitUnique : Type 0
 AdmitUnique = (jobs : List Job) (model : ℕ) → Unique (λ (r : Admission). toldAdmission r ≡ admitOf jobs model)
 

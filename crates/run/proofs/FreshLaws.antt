@@ -1,20 +1,17 @@
 -- The fresh state of a list: its places, and that it is sound.
-use mathlib.Core.Path.{_≡_, refl, ap, _∙_}
-use mathlib.Core.Bool.{Bool, true, false, _&&_}
+use mathlib.Core.Path.{_≡_, refl, ap}
+use mathlib.Core.Bool.{true}
 use mathlib.Core.List.{List}
-use Prim.Native.Nat.{ℕ, zero, suc, _+_, min, _≤_, _<_}
+use Prim.Native.Nat.{ℕ, _+_, min, _≤_, _<_}
 use native.Mathlib.Numerals.{add-one}
-use native.Mathlib.Decide.{ℕ-discrete}
 use native.Mathlib.Omega.{arith}
-use lib.Dec.{ltb}
-use lib.ListN.{length, set, replicate, length-set}
-use lib.Seq.{getD-set-same, getD-set-other}
-use borrow.Author.Tests.{ltb-true, ltb-false}
+use lib.ListN.{set}
 use Rattle.job.specs.declared.record.Job.{Job}
 use Rattle.job.specs.declared.list.JobList.{JobList}
 use Rattle.job.specs.Limit.{countMost}
 use Rattle.job.specs.Sound.{SoundList}
 use Rattle.job.specs.Check.{jobAt}
+use Rattle.job.specs.Filled.{filledUpto}
 use Rattle.place.specs.declared.setting.Setting.{Setting}
 use Rattle.place.specs.declared.record.Place.{Place}
 use Rattle.place.specs.Setting.{settingAllowed}
@@ -22,25 +19,9 @@ use Rattle.place.specs.Opening.{blank, opened}
 use Rattle.run.specs.declared.state.State.{State}
 use Rattle.run.specs.State.{placeAt, zeros, freshUpto, freshOf}
 use Rattle.run.specs.Sound.{SoundState}
-use Rattle.job.proofs.TestLaws.{clash, both}
+use Rattle.job.proofs.FilledLaws.{filled-long, filled-at, filled-past}
 use Rattle.place.proofs.PlaceLaws.{opened-sound}
 use Rattle.run.proofs.RangeLaws.{setting-facts}
-
--- a walk under two bounds
-module _ (i a b : ℕ) where
-  pub below-first : (ltb i a && ltb i b) ≡ true → i < a
-  below-first e = ltb-true i a (both (ltb i a) (ltb i b) e .0)
-
-  pub below-second : (ltb i a && ltb i b) ≡ true → i < b
-  below-second e = ltb-true i b (both (ltb i a) (ltb i b) e .1)
-
-  pub at-the-end : (ltb i a && ltb i b) ≡ false → i ≤ a → i ≤ b → i ≡ min a b
-  at-the-end e = go (ltb i a) (ltb i b) refl refl e
-    where
-      go : (x y : Bool) → ltb i a ≡ x → ltb i b ≡ y → (x && y) ≡ false → i ≤ a → i ≤ b → i ≡ min a b
-      go false y f g e ha hb = omega (arith, ltb-false i a f)
-      go true false f g e ha hb = omega (arith, ltb-false i b g)
-      go true true f g e ha hb = absurd (clash e refl)
 
 -- the state with the first n jobs of a list in their places
 abbrev pub openedUpto : JobList → Setting → ℕ → State
@@ -52,7 +33,7 @@ module _ (l : JobList) (s : Setting) {state : State} where
       state ≡ zeros
       → record { setting = s; clock = state .clock; count = l .count; places = state .places; totals = state .totals }
       ≡ openedUpto l s 0
-  unfolding freshUpto
+  unfolding filledUpto
   none-opened e =
       ap (λ (z : State). record { setting = s; clock = z .clock; count = l .count; places = z .places; totals = z .totals }) e
 
@@ -66,37 +47,13 @@ module _ (l : JobList) (s : Setting) {state : State} where
         totals = state .totals;
       }
       ≡ openedUpto l s (i + 1)
-  unfolding freshUpto
+  unfolding filledUpto
   one-more-opened i e f = rw (e, f, add-one)
 
 -- the places
-blank-at : (n i : ℕ) → placeAt (replicate n blank) i ≡ blank
-blank-at zero i = refl
-blank-at (suc n) zero = refl
-blank-at (suc n) (suc i) = blank-at n i
-
 module _ (jobs : List Job) where
-  pub fresh-long : (n : ℕ) → length (freshUpto jobs n) ≡ countMost
-  unfolding freshUpto
-  fresh-long zero = refl
-  fresh-long (suc n) = length-set (freshUpto jobs n) n (opened (jobAt jobs n)) ∙ fresh-long n
-
   pub fresh-at : (n i : ℕ) → i < n → n ≤ countMost → placeAt (freshUpto jobs n) i ≡ opened (jobAt jobs i)
-  unfolding freshUpto
-  fresh-at zero i h few = absurd (omega arith)
-  fresh-at (suc n) i h few = go (ℕ-discrete i n) (λ less. fresh-at n i less (omega arith))
-    where
-      go :
-          Dec (i ≡ n) → (i < n → placeAt (freshUpto jobs n) i ≡ opened (jobAt jobs i))
-          → placeAt (set (freshUpto jobs n) n (opened (jobAt jobs n))) i ≡ opened (jobAt jobs i)
-      go (yes e) before = rw e (getD-set-same (freshUpto jobs n) n (opened (jobAt jobs n)) blank (omega (arith, fresh-long n)))
-      go (no ne) before = getD-set-other (freshUpto jobs n) n i (opened (jobAt jobs n)) blank ne ∙ before (omega arith)
-
-  pub fresh-past : (n i : ℕ) → n ≤ i → placeAt (freshUpto jobs n) i ≡ blank
-  unfolding freshUpto
-  fresh-past zero i h = blank-at 16 i
-  fresh-past (suc n) i h =
-      getD-set-other (freshUpto jobs n) n i (opened (jobAt jobs n)) blank (omega arith) ∙ fresh-past n i (omega arith)
+  fresh-at = filled-at blank (λ i. opened (jobAt jobs i))
 
 -- the fresh state of a list
 module _ (l : JobList) (s : Setting) (few : l .count ≤ countMost) where
@@ -107,7 +64,7 @@ module _ (l : JobList) (s : Setting) (few : l .count ≤ countMost) where
   fresh-listed i h = rw all (fresh-at (l .jobs) (l .count) i h few)
 
   pub fresh-blank : (i : ℕ) → l .count ≤ i → placeAt (freshOf l s .places) i ≡ blank
-  fresh-blank i past = rw all (fresh-past (l .jobs) (l .count) i past)
+  fresh-blank i past = rw all (filled-past blank (λ i. opened (jobAt (l .jobs) i)) (l .count) i past)
 
 -- the fresh state of a sound list is sound
 pub fresh-sound : (l : JobList) (s : Setting) → SoundList l → settingAllowed s ≡ true → SoundState (freshOf l s)
@@ -115,7 +72,7 @@ fresh-sound l s sound allowed =
     let setting = setting-facts s allowed in
     let few = sound .count .high in
     record {
-      long = fresh-long (l .jobs) (min (l .count) countMost);
+      long = filled-long blank (λ i. opened (jobAt (l .jobs) i)) (min (l .count) countMost);
       order = setting .0;
       model = setting .1;
       clock-high = omega arith;

@@ -1,11 +1,12 @@
 -- The state of a run: the fresh state of a list, and the state of all zeros.
-use Prim.Native.Nat.{ℕ, zero, suc, min}
+use Prim.Native.Nat.{ℕ, min}
 use mathlib.Core.List.{List}
-use lib.ListN.{getD, set, replicate}
+use lib.ListN.{getD, replicate}
 use Rattle.job.specs.declared.record.Job.{Job}
 use Rattle.job.specs.declared.list.JobList.{JobList}
 use Rattle.job.specs.Limit.{countMost}
 use Rattle.job.specs.Check.{jobAt}
+use Rattle.job.specs.Filled.{filledUpto}
 use Rattle.place.specs.declared.setting.Setting.{Setting}
 use Rattle.place.specs.declared.record.Place.{Place}
 use Rattle.place.specs.Opening.{blank, opened}
@@ -34,9 +35,8 @@ zeros =
     }
 
 -- the first n jobs in their places, and zeros behind them
-unfoldable pub freshUpto : List Job → ℕ → List Place
-freshUpto jobs zero = replicate 16 blank
-freshUpto jobs (suc n) = set (freshUpto jobs n) n (opened (jobAt jobs n))
+abbrev pub freshUpto : List Job → ℕ → List Place
+freshUpto jobs n = filledUpto blank (λ i. opened (jobAt jobs i)) n
 
 -- 'the fresh state of a list'
 abbrev pub freshOf : JobList → Setting → State

@@ -5,7 +5,7 @@ use mathlib.Core.List.{[]}
 use lib.Dec.{ltb, eqb}
 use Rattle.job.specs.Told.{Told, row}
 use Rattle.job.specs.Check.{listTold}
-use Rattle.job.specs.Empty.{emptyList}
+use Rattle.job.specs.Filled.{emptyList}
 use Rattle.sheet.specs.declared.reading.Sheet.{Sheet}
 
 abbrev pub bytesMost : ℕ

@@ -48,9 +48,9 @@ use Rattle.job.specs.declared.record.Job.{Job}
 use Rattle.job.specs.declared.list.JobList.{JobList}
 use Rattle.job.specs.Limit.{countMost}
 use Rattle.job.specs.Check.{noJob, jobAt}
-use Rattle.job.specs.Empty.{emptyList}
-use Rattle.admission.specs.Lent.{putJob, gatherUpto, listOf}
-use Rattle.admission.proofs.LentLaws.{gather-none, gather-more, goesOn, goes-on, ends, Fewer, fewer-ends}
+use Rattle.job.specs.Filled.{emptyList}
+use Rattle.admission.specs.Lent.{putJob, listOf}
+use Rattle.admission.proofs.LentLaws.{gatherUpto, gather-none, gather-more, goesOn, goes-on, ends, Fewer, fewer-ends}
 use Rattle.job.proofs.record.Job as J
 use Rattle.job.proofs.record.Job.Laws as J′
 use Rattle.job.proofs.list.JobList as L

@@ -4,13 +4,15 @@ use Prim.Native.Nat.{_-_, _/_, _≤_}
 use native.Mathlib.Omega.{arith}
 use lib.ListN.{length}
 use borrow.Author.Needs.{needs}
-use Rattle.run.proofs.FreshLaws.{below-first, below-second, at-the-end}
-use Rattle.entry.proofs.JobLaws.{readUpto, none-read, one-more-read}
+use Rattle.job.specs.Filled.{listUpto}
+use Rattle.entry.specs.JobBytes.{jobFrom}
+use Rattle.job.proofs.WalkLaws.{below-first, below-second, at-the-end}
+use Rattle.job.proofs.FilledLaws.{none-put, one-more-put}
 use Rattle.entry.proofs.jobs.list_from.Statement.{statement}
 use Rattle.entry.proofs.jobs.list_from.Tie as tie
 
 abbrev Inv-loop : tie.InvT-loop
-Inv-loop bytes count list₀ at₀ list at = (at ≤ length bytes / 6) × (at ≤ 16) × (list ≡ readUpto bytes at)
+Inv-loop bytes count list₀ at₀ list at = (at ≤ length bytes / 6) × (at ≤ 16) × (list ≡ listUpto (jobFrom bytes) (length bytes / 6) at)
 
 abbrev μ-loop : tie.MeasureT-loop
 μ-loop bytes count list₀ at₀ list at = 16 - at
@@ -19,7 +21,7 @@ empty-requires : tie.Need-empty-requires Inv-loop μ-loop
 empty-requires c κs = search needs
 
 loop-holds : tie.Need-loop-holds Inv-loop μ-loop
-loop-holds c = (omega arith, omega arith, c .empty .ensures ∙ none-read (c .before .before .args .bytes .now))
+loop-holds c = (omega arith, omega arith, c .empty .ensures ∙ none-put (jobFrom (c .before .before .args .bytes .now)) _)
 
 job-from-requires : tie.Need-job-from-requires Inv-loop μ-loop
 job-from-requires c κs = omega (arith, below-first)
@@ -41,7 +43,7 @@ loop-again c =
     let loop = c .before .before .loop in (
       omega (arith, below-first),
       omega (arith, below-second),
-      one-more-read (c .before .before .before .before .before .args .bytes .now) (loop .at) (loop .inv .2) (c .job-from .ensures),
+      one-more-put (jobFrom (c .before .before .before .before .before .args .bytes .now)) _ (loop .at) (loop .inv .2) (c .job-from .ensures),
     )
 
 returns : tie.Need-returns Inv-loop μ-loop

@@ -3,7 +3,8 @@ use mathlib.Core.Path.{_≡_}
 use Prim.Native.Nat.{_-_, _≤_}
 use native.Mathlib.Omega.{arith}
 use borrow.Author.Needs.{needs}
-use Rattle.run.proofs.FreshLaws.{below-first, below-second, at-the-end, openedUpto, none-opened, one-more-opened}
+use Rattle.job.proofs.WalkLaws.{below-first, below-second, at-the-end}
+use Rattle.run.proofs.FreshLaws.{openedUpto, none-opened, one-more-opened}
 use Rattle.run.proofs.state.State.fresh.Statement.{statement}
 use Rattle.run.proofs.state.State.fresh.Tie as tie
 

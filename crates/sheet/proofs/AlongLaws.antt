@@ -10,7 +10,7 @@ use lib.ListN.{length}
 use Rattle.job.specs.Told.{row, passed}
 use Rattle.sheet.specs.declared.reader.Reader.{Reader}
 use Rattle.sheet.specs.Sheet.{bytesMost, sheetTold}
-use Rattle.sheet.specs.Reader.{byteAt, startReader, SoundReader, ownByte, fitsOf, pushedOf, jobStoredOf, storedOf, advancedOf, betweenLines, readerUpto, fitsUpto}
+use Rattle.sheet.specs.Reader.{byteAt, startReader, SoundReader, ownByte, fitsOf, pushedOf, jobEndedOf, storedOf, advancedOf, betweenLines, readerUpto, fitsUpto}
 use Rattle.sheet.specs.Answer.{lastReader, readTold, readSheet}
 use Rattle.job.proofs.TestLaws.{clash}
 use Rattle.place.proofs.CondLaws.{by-test}
@@ -24,19 +24,19 @@ module _ (r : Reader) where
   abbrev OneMore : Reader → Type 0
   OneMore q = q .sheet .list .count ≤ r .sheet .list .count + 1
 
-  job-stored-count : OneMore (jobStoredOf r)
-  unfolding jobStoredOf pushedOf
-  job-stored-count =
-      by-test OneMore (eqb (r .field) 3) (λ e. omega arith)
-      (λ e. by-test OneMore (eqb (r .field) 4) (λ e. omega arith)
-      (λ e. by-test OneMore (eqb (r .field) 5) (λ e. omega arith) (λ e. omega arith)))
+  job-ended-count : OneMore (jobEndedOf r)
+  unfolding jobEndedOf pushedOf
+  job-ended-count = omega arith
 
   stored-count : OneMore (storedOf r)
   unfolding storedOf
   stored-count =
       by-test OneMore (eqb (r .field) 0) (λ e. omega arith)
       (λ e. by-test OneMore (eqb (r .field) 1) (λ e. omega arith)
-      (λ e. by-test OneMore (eqb (r .field) 2) (λ e. omega arith) (λ e. job-stored-count)))
+      (λ e. by-test OneMore (eqb (r .field) 2) (λ e. omega arith)
+      (λ e. by-test OneMore (eqb (r .field) 3) (λ e. omega arith)
+      (λ e. by-test OneMore (eqb (r .field) 4) (λ e. omega arith)
+      (λ e. by-test OneMore (eqb (r .field) 5) (λ e. omega arith) (λ e. job-ended-count))))))
 
   advanced-count : (b : ℕ) → OneMore (advancedOf r b)
   unfolding advancedOf

@@ -12,7 +12,7 @@ use Rattle.job.specs.declared.record.Job.{Job}
 use Rattle.sheet.specs.declared.reading.Sheet.{Sheet}
 use Rattle.sheet.specs.declared.reader.Reader.{Reader}
 use Rattle.sheet.specs.Form.{Begins}
-use Rattle.sheet.specs.Reader.{ownByte, endByte, jobStoredOf, storedOf, advancedOf}
+use Rattle.sheet.specs.Reader.{ownByte, endByte, jobEndedOf, storedOf, advancedOf}
 use Rattle.sheet.proofs.ByteLaws.{readerAt, letter-own, number-own, own-fits, own-leaves, end-fits, end-leaves}
 use Rattle.sheet.proofs.HoldsLaws.{Holds, holds-more, holds-sheet}
 
@@ -41,7 +41,7 @@ record Next (field : ℕ) (r : Reader) : Type 0 where
   pub digits-none : r .digits ≡ 0
 
 stored-next : (field digits value : ℕ) (job : Job) (sheet : Sheet) → field ≤ 6 → Next field (storedOf (readerAt field digits value job sheet))
-unfolding nextField storedOf jobStoredOf
+unfolding nextField storedOf jobEndedOf
 stored-next zero digits value job sheet high = record { field-is = refl; digits-none = refl }
 stored-next (suc zero) digits value job sheet high = record { field-is = refl; digits-none = refl }
 stored-next (suc (suc zero)) digits value job sheet high = record { field-is = refl; digits-none = refl }

@@ -15,7 +15,7 @@ use Rattle.sheet.specs.declared.reading.Sheet.{Sheet}
 use Rattle.sheet.specs.declared.reader.Reader.{Reader}
 use Rattle.sheet.specs.Form.{numberMost, orderLetter, modelLetter, firstLine, jobLine, jobLines, SmallJob, SheetOf}
 use Rattle.sheet.specs.Sheet.{blankSheet}
-use Rattle.sheet.specs.Reader.{startReader, fitsOf, ownByte, valueAfter, advancedOf, endByte, sheetOf, pushedOf, jobStoredOf, storedOf}
+use Rattle.sheet.specs.Reader.{startReader, fitsOf, ownByte, valueAfter, advancedOf, endByte, sheetOf, pushedOf, jobEndedOf, storedOf}
 use Rattle.sheet.specs.Meaning.{Reads}
 use Rattle.text.proofs.DecimalLaws.{by-digits, decimal-one, decimal-more, decimal-some, decimal-length}
 use Rattle.sheet.proofs.ByteLaws.{readerAt, number-own, number-value, own-fits, own-leaves, end-fits, end-leaves}
@@ -75,7 +75,7 @@ betweenAt job sheet = readerAt 3 0 0 job sheet
 first-line-run :
     (s : Setting) (slots : ℕ) → s .order ≤ orderW → s .model ≤ original → slots ≤ numberMost
     → Runs startReader (firstLine s slots) (betweenAt noJob (sheetOf s slots (blankSheet .list)))
-unfolding firstLine storedOf jobStoredOf
+unfolding firstLine storedOf jobEndedOf
 first-line-run s slots order model small =
     order-run noJob blankSheet (s .order) order
     then end-run noJob blankSheet 0 1 (s .order) (omega arith)
@@ -87,7 +87,7 @@ first-line-run s slots order model small =
 job-line-run :
     (job : Job) (sheet : Sheet) (j : Job) → SmallJob j
     → Runs (betweenAt job sheet) (jobLine j) (betweenAt j (sheetOf (sheet .setting) (sheet .slots) (pushedOf (sheet .list) j)))
-unfolding jobLine storedOf jobStoredOf
+unfolding jobLine storedOf jobEndedOf
 job-line-run job sheet j small =
     number-run job sheet 3 (omega arith) (j .c) (small .c)
     then end-run job sheet 3 _ (j .c) (decimal-some (j .c))

@@ -19,7 +19,7 @@ use Rattle.place.specs.Setting.{orderW}
 use Rattle.sheet.specs.declared.reading.Sheet.{Sheet}
 use Rattle.sheet.specs.declared.reader.Reader.{Reader}
 use Rattle.sheet.specs.Form.{numberMost, orderLetter, modelLetter, firstLine, jobLine, jobLines, SmallJob, IsSheet}
-use Rattle.sheet.specs.Reader.{startReader, jobOf, SoundReader, betweenLines, letterFits, ownByte, endByte, fitsOf, valueAfter, jobStoredOf, storedOf, advancedOf}
+use Rattle.sheet.specs.Reader.{startReader, jobOf, SoundReader, betweenLines, letterFits, ownByte, endByte, fitsOf, valueAfter, jobEndedOf, storedOf, advancedOf}
 use Rattle.job.proofs.TestLaws.{both}
 use Rattle.text.proofs.DecimalLaws.{decimal-one, decimal-more, decimal-some, decimal-length, decimal-long}
 use Rattle.place.proofs.CondLaws.{by-test}
@@ -227,7 +227,7 @@ stored-holds :
     (field digits value : ℕ) (job : Job) (sheet : Sheet) (jobs : List Job) → field ≤ 6 → Kept job sheet → SmallJobs jobs
     → value ≤ fieldMost field
     → Holds (heldText field job sheet jobs ++ (fieldText field value ++ (endByte field ∷ []))) (storedOf (readerAt field digits value job sheet))
-unfolding heldText openLine fieldText fieldMost storedOf jobStoredOf firstLine jobLine jobLines
+unfolding heldText openLine fieldText fieldMost storedOf jobEndedOf firstLine jobLine jobLines
 stored-holds zero digits value job sheet jobs high kept all small = opened jobs 1 (omega arith) (omega arith) all refl
 stored-holds (suc zero) digits value job sheet jobs high kept all small =
     opened jobs 2 (omega arith) (omega arith) all (simp append-assoc)

@@ -65,19 +65,15 @@ sheetOf s slots l = record { setting = s; slots = slots; list = l }
 abbrev pub jobOf : ℕ → ℕ → ℕ → ℕ → Job
 jobOf c t m k = record { c = c; t = t; m = m; k = k }
 
--- an ended field: its value in its place, and the next field; after k the job is whole
-unfoldable pub jobStoredOf : Reader → Reader
-jobStoredOf r =
+-- an ended k: the job is whole, and the next may begin
+unfoldable pub jobEndedOf : Reader → Reader
+jobEndedOf r =
     let s = r .sheet in
     let j = r .job in
-    let x = r .value in
-    let next = r .field + 1 in
-    cond (eqb (r .field) 3) (withSheet next (jobOf x (j .t) (j .m) (j .k)) s)
-    (cond (eqb (r .field) 4) (withSheet next (jobOf (j .c) x (j .m) (j .k)) s)
-    (cond (eqb (r .field) 5) (withSheet next (jobOf (j .c) (j .t) x (j .k)) s)
-    (let whole = jobOf (j .c) (j .t) (j .m) x in
-    withSheet 3 whole (sheetOf (s .setting) (s .slots) (pushedOf (s .list) whole)))))
+    let whole = jobOf (j .c) (j .t) (j .m) (r .value) in
+    withSheet 3 whole (sheetOf (s .setting) (s .slots) (pushedOf (s .list) whole))
 
+-- an ended field: its value in its place, and the next field
 unfoldable pub storedOf : Reader → Reader
 storedOf r =
     let s = r .sheet in
@@ -86,7 +82,11 @@ storedOf r =
     let next = r .field + 1 in
     cond (eqb (r .field) 0) (withSheet next j (sheetOf (record { order = x; model = s .setting .model }) (s .slots) (s .list)))
     (cond (eqb (r .field) 1) (withSheet next j (sheetOf (record { order = s .setting .order; model = x }) (s .slots) (s .list)))
-    (cond (eqb (r .field) 2) (withSheet next j (sheetOf (s .setting) x (s .list))) (jobStoredOf r)))
+    (cond (eqb (r .field) 2) (withSheet next j (sheetOf (s .setting) x (s .list)))
+    (cond (eqb (r .field) 3) (withSheet next (jobOf x (j .t) (j .m) (j .k)) s)
+    (cond (eqb (r .field) 4) (withSheet next (jobOf (j .c) x (j .m) (j .k)) s)
+    (cond (eqb (r .field) 5) (withSheet next (jobOf (j .c) (j .t) x (j .k)) s)
+    (jobEndedOf r))))))
 
 unfoldable pub advancedOf : Reader → ℕ → Reader
 advancedOf r b =

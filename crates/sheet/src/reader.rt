@@ -3,7 +3,7 @@
 ghost use mathlib.Core.Path.{_≡_};
 ghost use mathlib.Core.Bool.{true};
 ghost use Prim.Native.Nat.{_≤_, _<_};
-ghost use Rattle.sheet.specs.Reader.{SoundReader, startReader, letterFits, digitFits, ownByte, endByte, fitsOf, valueAfter, pushedOf, withSheet, jobStoredOf, storedOf, advancedOf, betweenLines};
+ghost use Rattle.sheet.specs.Reader.{SoundReader, startReader, letterFits, digitFits, ownByte, endByte, fitsOf, valueAfter, pushedOf, withSheet, jobEndedOf, storedOf, advancedOf, betweenLines};
 use crate::reading::Sheet;
 use job::Job;
 use job::JobList;
@@ -71,42 +71,21 @@ fn opened(reader: Reader, field: u32) -> Reader
     next
 }
 
-// What an ended field of a job leaves: its value in its place, and the next field. After k the job
-// is whole.
-fn job_stored(reader: Reader) -> Reader
+// What an ended k leaves: the job is whole, and the next may begin.
+fn job_ended(reader: Reader) -> Reader
     requires { ⌜ reader .sheet .list .count < 18446744073709551615 ⌝ }
-    requires { ⌜ reader .field ≤ 6 ⌝ }
-    ensures { λ r. ⌜ r ≡ jobStoredOf reader ⌝ }
+    ensures { λ r. ⌜ r ≡ jobEndedOf reader ⌝ }
 {
-    let value = reader.value;
-    let field = reader.field;
-    let mut next = opened(reader, field + 1);
-    match field {
-        3 => {
-            next.job.c = value;
-            next
-        }
-        4 => {
-            next.job.t = value;
-            next
-        }
-        5 => {
-            next.job.m = value;
-            next
-        }
-        _ => {
-            next.field = 3;
-            next.job.k = value;
-            let job = next.job;
-            let mut sheet = next.sheet;
-            sheet.list = pushed(sheet.list, job);
-            next.sheet = sheet;
-            next
-        }
-    }
+    let mut next = opened(reader, 3);
+    next.job.k = reader.value;
+    let job = next.job;
+    let mut sheet = next.sheet;
+    sheet.list = pushed(sheet.list, job);
+    next.sheet = sheet;
+    next
 }
 
-// What an ended field leaves.
+// What an ended field leaves: its value in its place, and the next field.
 fn stored(reader: Reader) -> Reader
     requires { ⌜ reader .sheet .list .count < 18446744073709551615 ⌝ }
     requires { ⌜ reader .field ≤ 6 ⌝ }
@@ -116,20 +95,15 @@ fn stored(reader: Reader) -> Reader
     let field = reader.field;
     let mut next = opened(reader, field + 1);
     match field {
-        0 => {
-            next.sheet.setting.order = value;
-            next
-        }
-        1 => {
-            next.sheet.setting.model = value;
-            next
-        }
-        2 => {
-            next.sheet.slots = value;
-            next
-        }
-        _ => job_stored(reader),
+        0 => next.sheet.setting.order = value,
+        1 => next.sheet.setting.model = value,
+        2 => next.sheet.slots = value,
+        3 => next.job.c = value,
+        4 => next.job.t = value,
+        5 => next.job.m = value,
+        _ => next = job_ended(reader),
     }
+    next
 }
 
 impl Reader {

@@ -12,8 +12,8 @@ add-opened c = search needs
 opened-requires : tie.Need-opened-requires
 opened-requires c κs = search needs
 
-job-stored-requires : tie.Need-job-stored-requires
-job-stored-requires c κs = search needs
+job-ended-requires : tie.Need-job-ended-requires
+job-ended-requires c κs = search needs
 
 returns : tie.Need-returns
 unfolding storedOf
@@ -29,11 +29,33 @@ returns-3 c = rw (c .before .before .opened .ensures, storedOf, c .before .match
 
 returns-4 : tie.Need-returns-4
 unfolding storedOf
-returns-4 c =
+returns-4 c = rw (c .before .before .opened .ensures, storedOf, c .before .match .keys4) refl
+
+returns-5 : tie.Need-returns-5
+unfolding storedOf
+returns-5 c = rw (c .before .before .opened .ensures, storedOf, c .before .match .keys5) refl
+
+returns-6 : tie.Need-returns-6
+unfolding storedOf
+returns-6 c = rw (c .before .before .opened .ensures, storedOf, c .before .match .keys6) refl
+
+returns-7 : tie.Need-returns-7
+unfolding storedOf
+returns-7 c =
     let rest = c .before .match .rest in
-    rw (c .job-stored .ensures, storedOf, ne-eqb _ 0 (rest .0 .0 .1), ne-eqb _ 1 (rest .0 .1), ne-eqb _ 2 (rest .1)) refl
+    rw (c .job-ended .ensures, storedOf, ne-eqb _ 0 (rest .0 .0 .0 .0 .0 .1), ne-eqb _ 1 (rest .0 .0 .0 .0 .1), ne-eqb _ 2 (rest .0 .0 .0 .1), ne-eqb _ 3 (rest .0 .0 .1), ne-eqb _ 4 (rest .0 .1), ne-eqb _ 5 (rest .1)) refl
 
 pub stored-spec : {M : Type 1} → statement M
 stored-spec =
     tie.close
-    (tie.spec add-opened opened-requires job-stored-requires returns returns-2 returns-3 returns-4)
+    (tie.spec
+    add-opened
+    opened-requires
+    job-ended-requires
+    returns
+    returns-2
+    returns-3
+    returns-4
+    returns-5
+    returns-6
+    returns-7)

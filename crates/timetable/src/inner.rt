@@ -13,7 +13,6 @@ use place::inner::service::moved;
 use run::State;
 use run::inner::choice::choose;
 use run::inner::slot::counted;
-use run::inner::slot::plus_if;
 
 // 'one byte each, 0 to 15 or 255 for idle'
 fn byte_of(chosen: usize) -> u8
@@ -47,8 +46,8 @@ pub(crate) fn fill(state: State, buf: &mut [u8]) -> State
             let outcome = moved(setting, places[i], i == chosen);
             let place = outcome.place;
             places[i] = place;
-            tagged = plus_if(outcome.tagged, tagged, 1);
-            short = plus_if(outcome.short, short, 1);
+            tagged += outcome.tagged as u32;
+            short += outcome.short as u32;
             best = better(setting, best, i, place);
             i += 1;
         }

@@ -29,7 +29,7 @@ pub struct Outcomes {
 }
 
 // x and `more`, where b holds.
-pub fn plus_if(b: bool, x: u32, more: u32) -> u32
+fn plus_if(b: bool, x: u32, more: u32) -> u32
     requires { ⌜ x + more < 4294967296 ⌝ }
     ensures { λ r. ⌜ r ≡ cond b (x + more) x ⌝ }
 {

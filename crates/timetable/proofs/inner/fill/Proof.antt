@@ -5,7 +5,7 @@ use Prim.Native.Nat.{_-_}
 use native.Mathlib.Omega.{arith}
 use lib.ListN.{length}
 use borrow.Author.Needs.{needs}
-use Rattle.timetable.proofs.FillLaws.{Ready, Filling, Passing, fill-starts, fill-chosen, fill-ready, fill-totals, fill-more, pass-starts, pass-sound, pass-fair, pass-counts, pass-moved-sound, pass-more, pass-done, done-state, done-bytes}
+use Rattle.timetable.proofs.FillLaws.{byte-high, plus-byte, Ready, Filling, Passing, fill-starts, fill-chosen, fill-ready, fill-totals, fill-more, pass-starts, pass-sound, pass-fair, pass-counts, pass-moved-sound, pass-more, pass-done, done-state, done-bytes}
 use Rattle.timetable.proofs.inner.fill.Statement.{statement}
 use Rattle.timetable.proofs.inner.fill.Tie as tie
 
@@ -63,17 +63,23 @@ mul-places c = search needs
 array-set-from-places : tie.Need-array-set-from-places Inv-loop2 μ-loop2 Inv-loop μ-loop
 array-set-from-places c = search needs
 
-plus-if-requires : tie.Need-plus-if-requires Inv-loop2 μ-loop2 Inv-loop μ-loop
-plus-if-requires c κs =
-    let h = c .before .before .before .before in
-    let counts = pass-counts _ _ _ _ (slot-ready h) (h .loop2 .inv) in
-    omega arith
+cast-tagged : tie.Need-cast-tagged Inv-loop2 μ-loop2 Inv-loop μ-loop
+cast-tagged c = search needs
 
-plus-if-requires-2 : tie.Need-plus-if-requires-2 Inv-loop2 μ-loop2 Inv-loop μ-loop
-plus-if-requires-2 c κs =
+add-tagged : tie.Need-add-tagged Inv-loop2 μ-loop2 Inv-loop μ-loop
+add-tagged c =
     let h = c .before .before .before .before .before in
     let counts = pass-counts _ _ _ _ (slot-ready h) (h .loop2 .inv) in
-    omega arith
+    omega (arith, byte-high (c .before .before .moved .result .tagged))
+
+cast-short : tie.Need-cast-short Inv-loop2 μ-loop2 Inv-loop μ-loop
+cast-short c = search needs
+
+add-short : tie.Need-add-short Inv-loop2 μ-loop2 Inv-loop μ-loop
+add-short c =
+    let h = c .before .before .before .before .before .before in
+    let counts = pass-counts _ _ _ _ (slot-ready h) (h .loop2 .inv) in
+    omega (arith, byte-high (c .before .before .before .moved .result .short))
 
 better-requires : tie.Need-better-requires Inv-loop2 μ-loop2 Inv-loop μ-loop
 better-requires c κs =
@@ -89,7 +95,8 @@ loop2-less c = search needs
 loop2-again : tie.Need-loop2-again Inv-loop2 μ-loop2 Inv-loop μ-loop
 loop2-again c =
     let h = c .before .before .before .before .before .before .before in
-    pass-more _ _ _ _ (slot-ready h) (h .loop2 .inv) (omega arith) (c .before .before .before .before .moved .ensures) (c .better .ensures) (c .before .before .plus-if .ensures) (c .before .plus-if2 .ensures)
+    let o = c .before .before .before .before .moved .result in
+    pass-more _ _ _ _ (slot-ready h) (h .loop2 .inv) (omega arith) (c .before .before .before .before .moved .ensures) (c .better .ensures) (plus-byte (o .tagged) _) (plus-byte (o .short) _)
 
 byte-of-requires : tie.Need-byte-of-requires Inv-loop2 μ-loop2 Inv-loop μ-loop
 byte-of-requires c κs =
@@ -158,8 +165,10 @@ fill-spec =
     moved-requires
     mul-places
     array-set-from-places
-    plus-if-requires
-    plus-if-requires-2
+    cast-tagged
+    add-tagged
+    cast-short
+    add-short
     better-requires
     add-i
     loop2-less

@@ -7,9 +7,10 @@ use native.Mathlib.Omega.{arith}
 use lib.Dec.{eqb}
 use borrow.Author.Tests.{eqb-true, eqb-false}
 use Rattle.admission.specs.Divisor.{GreatestDivisor, gcdIn, gcd}
-use Rattle.admission.specs.Meaning.{DivisorUnique, EuclidGreatest}
+use Rattle.admission.specs.Meaning.{EuclidGreatest}
 
-pub divisor-unique : DivisorUnique
+-- two numbers have one greatest common divisor
+pub divisor-unique : (a b d e : ℕ) → GreatestDivisor a b d → GreatestDivisor a b e → d ≡ e
 divisor-unique a b d e one other =
     dvd-antisymm (other .greatest d (one .left) (one .right)) (one .greatest e (other .left) (other .right))
 

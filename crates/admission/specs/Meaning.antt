@@ -24,10 +24,7 @@ AdmissionOneToOne = (a b : Admission) → toldAdmission a ≡ toldAdmission b �
 abbrev pub CycleOneToOne : Type 0
 CycleOneToOne = (a b : Cycle) → toldCycle a ≡ toldCycle b → a ≡ b
 
--- two numbers have one greatest common divisor, and Euclid's rule finds it
-abbrev pub DivisorUnique : Type 0
-DivisorUnique = (a b d e : ℕ) → GreatestDivisor a b d → GreatestDivisor a b e → d ≡ e
-
+-- Euclid's rule finds the greatest common divisor
 abbrev pub EuclidGreatest : Type 0
 EuclidGreatest = (a b : ℕ) → GreatestDivisor a b (gcd a b)
 

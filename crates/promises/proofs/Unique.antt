@@ -5,7 +5,7 @@ use Prim.Native.Nat.{ℕ}
 use Rattle.job.specs.Told.{toldChecked}
 use Rattle.job.proofs.ToldLaws.{checked-one-to-one}
 use Rattle.admission.proofs.AnswerLaws.{admission-one-to-one}
-use Rattle.admission.proofs.DivisorLaws.{divisor-unique}
+use Rattle.admission.proofs.DivisorLaws.{divisor-unique as one-divisor}
 use Rattle.run.proofs.AnswerLaws.{step-one-to-one}
 use Rattle.promises.specs.Unique.{Unique, ValueUnique, JobCheckUnique, ListCheckUnique, DivisorUnique, VerdictUnique, StartUnique, StepUnique, WriteUnique, Left, AdmitUnique, ReadUnique, LineUnique, AdmitEntryUnique, FillEntryUnique}
 
@@ -27,8 +27,8 @@ job-check-unique at j = told-fixed toldChecked checked-one-to-one _
 pub list-check-unique : ListCheckUnique
 list-check-unique l = told-fixed toldChecked checked-one-to-one _
 
-pub divisor-one : DivisorUnique
-divisor-one a b x y = divisor-unique a b x y
+pub divisor-unique : DivisorUnique
+divisor-unique = one-divisor
 
 pub verdict-unique : VerdictUnique
 verdict-unique l model a b e f = admission-one-to-one a b (e ∙ sym f)

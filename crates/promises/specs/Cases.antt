@@ -4,10 +4,10 @@ use mathlib.Core.Path.{_≡_}
 use mathlib.Core.List.{List, [], _∷_, _++_, map}
 use lib.ListN.{length}
 use Rattle.job.specs.declared.record.Job.{Job}
-use Rattle.job.specs.declared.list.JobList.{JobList}
 use Rattle.job.specs.Limit.{relaxed, original}
 use Rattle.job.specs.Told.{Told, row}
 use Rattle.admission.specs.Verdict.{verdictTold}
+use Rattle.admission.specs.Lent.{listOf}
 use Rattle.place.specs.Setting.{orderV, orderW}
 use Rattle.run.specs.declared.state.State.{State}
 use Rattle.run.specs.Slot.{turnOf}
@@ -32,9 +32,6 @@ answersOf s zero = []
 answersOf s (suc n) = answersOf s n ++ (toldSlot (turnOf (afterSlots s n) .slot) ∷ [])
 
 -- by the definitions that the contracts cite
-abbrev pub listOf : List Job → JobList
-listOf jobs = record { jobs = jobs; count = length jobs }
-
 abbrev pub worked : Case → Shown
 worked c =
     record {

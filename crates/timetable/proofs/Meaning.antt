@@ -18,7 +18,7 @@ use Rattle.run.proofs.RangeLaws.{range-exactly}
 use Rattle.run.proofs.FreshLaws.{fresh-sound}
 use Rattle.run.proofs.RunHistory.{history-holds}
 use Rattle.text.specs.Written.{written}
-use Rattle.text.proofs.WrittenLaws.{written-none, written-length, written-twice}
+use Rattle.text.proofs.WrittenLaws.{written-none, written-length, written-twice as text-twice}
 use Rattle.text.proofs.WrittenAt.{written-inside, written-before, written-behind}
 use Rattle.run.proofs.RunLaws.{after-add, choices-add, choices-long, after-clock, after-sound}
 use Rattle.timetable.specs.Table.{writeTold, writes, writeState, writeBytes}
@@ -122,9 +122,9 @@ module _ (s : State) (bytes : List ℕ) (offset n : ℕ) (room : Room s (length 
   unfolding writeState
   state-written = rw told
 
-  bytes-written : writeBytes s bytes offset n ≡ written bytes offset (choicesOf s n)
+  bytes-are : writeBytes s bytes offset n ≡ written bytes offset (choicesOf s n)
   unfolding writeBytes
-  bytes-written = rw told
+  bytes-are = rw told
 
 pub none-written : NoneWritten
 unfolding writeState writeBytes afterSlots choicesOf
@@ -146,7 +146,7 @@ module _ (s : State) (bytes : List ℕ) (offset n m : ℕ) (room : Room s (lengt
   half-long : length (writeBytes s bytes offset n) ≡ length bytes
   half-long =
       let f = first-room .fits in
-      ap length (bytes-written s bytes offset n first-room)
+      ap length (bytes-are s bytes offset n first-room)
       ∙ written-length bytes offset (choicesOf s n) (omega (arith, choices-long s n))
 
   second-room : Room (afterSlots s n) (length (writeBytes s bytes offset n)) (offset + n) m
@@ -170,17 +170,17 @@ module _ (s : State) (bytes : List ℕ) (offset n m : ℕ) (room : Room s (lengt
       writeBytes (afterSlots s n) (writeBytes s bytes offset n) (offset + n) m ≡ writeBytes s bytes offset (n + m)
   twice-bytes =
       let f = room .fits in
-      bytes-written (afterSlots s n) (writeBytes s bytes offset n) (offset + n) m second-room
-      ∙ ap (λ (x : List ℕ). written x (offset + n) (choicesOf (afterSlots s n) m)) (bytes-written s bytes offset n first-room)
+      bytes-are (afterSlots s n) (writeBytes s bytes offset n) (offset + n) m second-room
+      ∙ ap (λ (x : List ℕ). written x (offset + n) (choicesOf (afterSlots s n) m)) (bytes-are s bytes offset n first-room)
       ∙ ap (λ (k : ℕ). written (written bytes offset (choicesOf s n)) (offset + k) (choicesOf (afterSlots s n) m))
       (sym (choices-long s n))
-      ∙ written-twice bytes offset (choicesOf s n) (choicesOf (afterSlots s n) m)
+      ∙ text-twice bytes offset (choicesOf s n) (choicesOf (afterSlots s n) m)
       (omega (arith, choices-long s n, choices-long (afterSlots s n) m))
       ∙ ap (written bytes offset) (sym (choices-add s n m))
-      ∙ sym (bytes-written s bytes offset (n + m) room)
+      ∙ sym (bytes-are s bytes offset (n + m) room)
 
-pub written-twice-over : WrittenTwice
-written-twice-over s bytes offset n m room =
+pub written-twice : WrittenTwice
+written-twice s bytes offset n m room =
     let half = writeBytes s bytes offset n in
     let next = state-written s bytes offset n (first-room s bytes offset n m room) in (
       ap (λ (x : State). writeState x (length half) (offset + n) m) next ∙ twice-state s bytes offset n m room,
@@ -193,11 +193,11 @@ table-history l setting bytes offset n sound allowed fits clock =
     record { sound = fresh-sound l setting sound allowed; fits = fits; clock = omega arith } in
     rw (state-written (freshOf l setting) bytes offset n room) (history-holds l setting sound allowed n clock)
 
-pub bytes-placed : BytesWritten
-bytes-placed s bytes offset n room =
+pub bytes-written : BytesWritten
+bytes-written s bytes offset n room =
     let new = choicesOf s n in
     let fits : offset + length new ≤ length bytes = let f = room .fits in omega (arith, choices-long s n) in
-    rw (bytes-written s bytes offset n room) (
+    rw (bytes-are s bytes offset n room) (
       written-length bytes offset new fits,
       λ i h. written-inside bytes offset new fits i (omega (arith, choices-long s n)),
       written-before bytes offset new fits,

@@ -1,5 +1,5 @@
 -- What an answer returns, by its variant; and an answer is determined by the paper's number and values.
-use mathlib.Core.Path.{_≡_, refl, sym, _∙_, ap}
+use mathlib.Core.Path.{_≡_, refl, sym, _∙_, ap, subst}
 use mathlib.Core.Bool.{false, cond}
 use mathlib.Core.List.{List, [], _∷_}
 use Prim.Native.Nat.{ℕ}
@@ -14,11 +14,8 @@ use Rattle.job.proofs.refusal.Refusal.{the-type}
 use Rattle.job.proofs.ToldLaws.{one-to-one, rowBack, row-back, told-refuses}
 use Rattle.admission.specs.declared.answer.Admission.{Admission}
 use Rattle.admission.specs.declared.answer.Admission.the-variants.{Admitted, Refused}
-use Rattle.admission.specs.declared.inner.Cycle.{Cycle}
-use Rattle.admission.specs.declared.inner.Cycle.the-variants.{Of, TooLong}
-use Rattle.admission.specs.Cycle.{toldCycle}
-use Rattle.admission.specs.Answer.{toldAdmission, returnsBoth}
-use Rattle.admission.specs.Meaning.{AdmissionOneToOne, CycleOneToOne}
+use Rattle.admission.specs.Answer.{toldAdmission, returnsBoth, cycleReturned, loadReturned}
+use Rattle.admission.specs.Meaning.{AdmissionOneToOne, AdmissionNumbered, CycleReturned, LoadReturned}
 
 -- what is returned of an answer is what is returned of its variant
 pub returned : (f : Told → ℕ) {a b : Admission} → a ≡ b → f (toldAdmission b) ≡ f (toldAdmission a)
@@ -27,11 +24,8 @@ returned f e = ap (λ (x : Admission). f (toldAdmission x)) (sym e)
 pub refused : (f : Told → ℕ) {a : Admission} {r s : Refusal} → a ≡ Refused r → r ≡ s → f (told s) ≡ f (toldAdmission a)
 refused f e same = ap (λ (x : Refusal). f (told x)) (sym same) ∙ returned f e
 
--- every variant but row 9's, as the code tells them apart
-abbrev pub others : List ℕ
-others = 0 ∷ 1 ∷ 2 ∷ 3 ∷ 4 ∷ 5 ∷ 6 ∷ 7 ∷ 9 ∷ 10 ∷ 11 ∷ 12 ∷ 13 ∷ 14 ∷ 15 ∷ 16 ∷ []
-
-others-return-none : (r : Refusal) → OneOf others (tagOf the-type r) → returnsBoth (told r) ≡ false
+-- neither cycle nor load is returned of a refusal that is not row 9
+others-return-none : (r : Refusal) → ((h d : ℕ) → r ≡ Overload h d → ⊥) → returnsBoth (told r) ≡ false
 others-return-none NoJobs k = refl
 others-return-none TooManyJobs k = refl
 others-return-none (Period j) k = refl
@@ -40,7 +34,7 @@ others-return-none (Window j) k = refl
 others-return-none (Share j) k = refl
 others-return-none OriginalModel k = refl
 others-return-none CycleTooLong k = refl
-others-return-none (Overload h d) k = absurd (miss others 8 tt k)
+others-return-none (Overload h d) k = absurd (k h d refl)
 others-return-none StateOutOfRange k = refl
 others-return-none ClockAtLimit k = refl
 others-return-none BufferTooShort k = refl
@@ -50,9 +44,36 @@ others-return-none OrderOrModel k = refl
 others-return-none SlotCount k = refl
 others-return-none SheetTooLong k = refl
 
+-- every variant but row 9's, as the code tells them apart
+abbrev pub others : List ℕ
+others = 0 ∷ 1 ∷ 2 ∷ 3 ∷ 4 ∷ 5 ∷ 6 ∷ 7 ∷ 9 ∷ 10 ∷ 11 ∷ 12 ∷ 13 ∷ 14 ∷ 15 ∷ 16 ∷ []
+
 pub refused-otherwise :
     {a : Admission} {r : Refusal} → a ≡ Refused r → OneOf others (tagOf the-type r) → returnsBoth (toldAdmission a) ≡ false
-refused-otherwise {r = r} e k = ap (λ (x : Admission). returnsBoth (toldAdmission x)) e ∙ others-return-none r k
+refused-otherwise {r = r} e k =
+    ap (λ (x : Admission). returnsBoth (toldAdmission x)) e
+    ∙ others-return-none r (λ h d same. miss others 8 tt (subst (λ (x : Refusal). OneOf others (tagOf the-type x)) same k))
+
+pub cycle-returned : CycleReturned
+unfolding cycleReturned
+cycle-returned =
+    record {
+      admitted = λ h d r e. e;
+      overload = λ h d r e. e;
+      otherwise = λ x r other e. rw (others-return-none x other) at e;
+    }
+
+pub load-returned : LoadReturned
+unfolding loadReturned
+load-returned =
+    record {
+      admitted = λ h d r e. e;
+      overload = λ h d r e. e;
+      otherwise = λ x r other e. rw (others-return-none x other) at e;
+    }
+
+pub admission-numbered : AdmissionNumbered
+admission-numbered a r e = e
 
 -- the way back from number and values
 admissionBack : Told → Admission
@@ -65,14 +86,3 @@ admission-back (Refused r) = rw (told-refuses r) (ap Refused (row-back r))
 
 pub admission-one-to-one : AdmissionOneToOne
 admission-one-to-one = one-to-one toldAdmission admissionBack admission-back
-
-cycleBack : Told → Cycle
-cycleBack t = cond (eqb (t .number) 0) (Of (getD (t .values) 0 0)) TooLong
-
-cycle-back : (c : Cycle) → cycleBack (toldCycle c) ≡ c
-unfolding cycleBack
-cycle-back (Of h) = refl
-cycle-back TooLong = refl
-
-pub cycle-one-to-one : CycleOneToOne
-cycle-one-to-one = one-to-one toldCycle cycleBack cycle-back

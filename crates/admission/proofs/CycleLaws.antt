@@ -4,7 +4,7 @@ use mathlib.Core.Logic.{_⊎_, inl, inr}
 use mathlib.Core.Bool.{Bool, true, false, cond}
 use mathlib.Core.List.{List, [], _∷_}
 use Prim.Native.Nat.{ℕ, zero, suc, _+_, _*_, _/_, _≤_, _<_, _∣_}
-use native.Mathlib.Nat.{mul-comm, mul-pos, mul-le-mul, le-trans, div-le-self, div-mul-cancel, eq-zero-or-pos, one-dvd, dvd-refl, dvd-zero, dvd-trans, dvd-mul-left, dvd-mul-right, mul-dvd-mul-left, mul-dvd-mul-right, dvd-of-mul-dvd-mul-right, pos-of-dvd-of-pos, le-of-dvd}
+use native.Mathlib.Nat.{mul-comm, mul-pos, mul-le-mul, le-trans, le-antisymm, div-le-self, div-mul-cancel, eq-zero-or-pos, one-dvd, dvd-refl, dvd-zero, dvd-trans, dvd-mul-left, dvd-mul-right, mul-dvd-mul-left, mul-dvd-mul-right, dvd-of-mul-dvd-mul-right, pos-of-dvd-of-pos, le-of-dvd}
 use native.Mathlib.Numerals.{add-one}
 use native.Mathlib.Decide.{le-ind}
 use native.Mathlib.Omega.{arith}
@@ -21,7 +21,7 @@ use Rattle.job.proofs.ToldLaws.{apart}
 use Rattle.admission.specs.Divisor.{GreatestDivisor, gcd}
 use Rattle.job.specs.Window.{windowOf}
 use Rattle.admission.specs.Cycle.{lcm, cycleUpto, cycleOf, cycleTold}
-use Rattle.admission.specs.Meaning.{CycleCommon, CycleLeast}
+use Rattle.admission.specs.Judged.{CommonMultiple, LeastCommonMultiple}
 use Rattle.admission.proofs.DivisorLaws.{divisor-unique, euclid-greatest, euclid-scaled}
 
 -- the code divides by whatever is the greatest common divisor
@@ -94,13 +94,13 @@ cycle-positive jobs zero s = omega arith
 cycle-positive jobs (suc n) s =
     lcm-positive (cycle-positive jobs n (λ i h. s i (omega arith))) (window-positive (s n (omega arith)))
 
-pub cycle-common : CycleCommon
+pub cycle-common : (l : JobList) → CommonMultiple l (cycleOf l)
 unfolding cycleUpto
 cycle-common l i h =
     let w = windowOf (jobAt (l .jobs) i) in
     dvd-trans w (lcm-right (cycleUpto (l .jobs) i) w) (cycle-divides (l .jobs) (suc i) (l .count) h)
 
-pub cycle-least : CycleLeast
+pub cycle-least : (l : JobList) (x : ℕ) → CommonMultiple l x → cycleOf l ∣ x
 unfolding cycleUpto
 cycle-least l x common = go (l .count) common
   where
@@ -108,6 +108,22 @@ cycle-least l x common = go (l .count) common
     go zero h = one-dvd x
     go (suc n) h =
         lcm-least (cycleUpto (l .jobs) n) (windowOf (jobAt (l .jobs) n)) x (go n (λ i less. h i (omega arith))) (h n (omega arith))
+
+-- a list has one least common multiple at most, and the cycle of a sound list is one
+pub multiple-unique : {l : JobList} {h g : ℕ} → LeastCommonMultiple l h → LeastCommonMultiple l g → h ≡ g
+multiple-unique {l} {h} {g} one other =
+    le-antisymm (one .least g (other .positive) (other .common)) (other .least h (one .positive) (one .common))
+
+pub cycle-multiple : (l : JobList) → SoundList l → LeastCommonMultiple l (cycleOf l)
+cycle-multiple l s =
+    record {
+      positive = cycle-positive (l .jobs) (l .count) (s .jobs);
+      common = cycle-common l;
+      least = λ x some common. le-of-dvd some (cycle-least l x common);
+    }
+
+pub cycle-is : (l : JobList) {h : ℕ} → SoundList l → LeastCommonMultiple l h → h ≡ cycleOf l
+cycle-is l s multiple = multiple-unique multiple (cycle-multiple l s)
 
 -- one turn of the code: no product wraps, and it is the cycle of one job more
 pub cycle-next :

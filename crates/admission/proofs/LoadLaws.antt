@@ -1,19 +1,19 @@
--- A job's share of a cycle, and how the load of a list goes on from job to job.
-use mathlib.Core.Path.{_≡_, refl, ap}
-use mathlib.Core.List.{List}
+-- A job's share of a cycle, how the load of a list goes on from job to job, and that it is the sum of exact shares.
+use mathlib.Core.Path.{_≡_, refl, sym, _∙_, ap}
+use mathlib.Core.List.{List, [], _∷_, map, sum}
 use Prim.Native.Nat.{ℕ, zero, suc, _+_, _*_, _/_, _≤_}
 use native.Mathlib.Nat.{le-trans, mul-le-mul, mul-le-mul-right, mul-div-le, div-mul-cancel}
 use native.Mathlib.Numerals.{add-one}
 use native.Mathlib.Omega.{arith}
+use lib.ListN.{take}
 use Rattle.job.specs.declared.record.Job.{Job}
 use Rattle.job.specs.declared.list.JobList.{JobList}
 use Rattle.job.specs.Limit.{countMost, cycleMost}
 use Rattle.job.specs.Check.{jobAt}
 use Rattle.job.specs.Sound.{SoundJob, SoundBelow, SoundList}
 use Rattle.job.specs.Window.{windowOf}
-use Rattle.admission.specs.Load.{shareOf, loadUpto}
-use Rattle.admission.specs.Meaning.{ShareExact}
-use Rattle.admission.proofs.CycleLaws.{cycle-common}
+use Rattle.admission.specs.Load.{shareOf, loadUpto, loadOf}
+use Rattle.admission.specs.Judged.{CommonMultiple, Load}
 
 -- the service of a window is within the window, so a share is within the cycle
 pub service-most : {j : Job} → SoundJob j → j .m * j .c ≤ windowOf j
@@ -43,8 +43,30 @@ pub load-fits :
 load-fits l h i s short listed =
     le-trans (load-most (l .jobs) h i (λ k less. s .jobs k (omega arith))) (mul-le-mul {n₂ = countMost} (omega arith) short)
 
--- no rounded share: each window divides the cycle
-pub share-exact : ShareExact
-share-exact l i listed =
-    let j = jobAt (l .jobs) i in
-    omega (arith, ap (j .m * j .c *_) (div-mul-cancel (windowOf j) (cycle-common l i listed)))
+-- the load as the library's sum, from the first job on
+load-front : (j : Job) (jobs : List Job) (h n : ℕ) → loadUpto (j ∷ jobs) h (suc n) ≡ shareOf j h + loadUpto jobs h n
+unfolding loadUpto
+load-front j jobs h zero = omega arith
+load-front j jobs h (suc n) = omega (arith, load-front j jobs h n)
+
+load-empty : (h n : ℕ) → loadUpto [] h n ≡ 0
+unfolding loadUpto
+load-empty h zero = refl
+load-empty h (suc n) = omega (arith, load-empty h n)
+
+shares-sum : (jobs : List Job) (h n : ℕ) → loadUpto jobs h n ≡ sum _+_ 0 (map (λ (j : Job). shareOf j h) (take n jobs))
+unfolding sum
+shares-sum jobs h zero = load-none jobs h
+shares-sum [] h (suc n) = load-empty h (suc n)
+shares-sum (j ∷ jobs) h (suc n) = load-front j jobs h n ∙ ap (shareOf j h +_) (shares-sum jobs h n)
+
+-- a list has one load of h slots, which is exact where every window divides h
+pub load-is : {l : JobList} {h d : ℕ} → Load l h d → d ≡ loadOf l h
+load-is {l} {h} load = load .shares ∙ sym (shares-sum (l .jobs) h (l .count))
+
+pub load-exact : (l : JobList) {h : ℕ} → CommonMultiple l h → Load l h (loadOf l h)
+load-exact l {h} common =
+    record {
+      whole = λ i listed. div-mul-cancel (windowOf (jobAt (l .jobs) i)) (common i listed);
+      shares = shares-sum (l .jobs) h (l .count);
+    }

@@ -1,4 +1,4 @@
--- The statements of specs/Meaning about the verdict: what each of its rows says, and that it is given wherever that holds.
+-- What each row of the verdict says, and that it is given wherever that holds; from these laws, the statement of specs/Meaning.
 use mathlib.Core.Path.{_≡_, refl, sym, _∙_, subst}
 use mathlib.Core.Bool.{Bool, true, false, cond}
 use mathlib.Core.Logic.{_↔_}
@@ -16,7 +16,10 @@ use Rattle.job.proofs.Meaning.{ListView, no-jobs, many-jobs, sound-list, faulty
 use Rattle.admission.specs.Cycle.{cycleOf}
 use Rattle.admission.specs.Load.{loadOf}
 use Rattle.admission.specs.Verdict.{judgedTold, verdictTold}
-use Rattle.admission.specs.Meaning.{Judged, RowFifteenExactly, RowOneExactly, RowTwoExactly, JobRowsExactly, RowSevenExactly, RowEightExactly, RowNineExactly, AdmittedExactly}
+use Rattle.admission.specs.Judged.{LeastCommonMultiple, Judged}
+use Rattle.admission.specs.Meaning.{VerdictRows, Verdicts}
+use Rattle.admission.proofs.CycleLaws.{cycle-multiple, cycle-is}
+use Rattle.admission.proofs.LoadLaws.{load-is, load-exact}
 use Rattle.admission.proofs.VerdictLaws.{judged-over, judged-admitted, verdict-strange, verdict-refused, verdict-original, verdict-long, verdict-judged}
 
 -- what a row says of a list and a model
@@ -26,7 +29,7 @@ RowSays l model n [] =
     (cond (eqb n 1) ((model ≤ original) × (l .count ≡ 0))
     (cond (eqb n 2) ((model ≤ original) × (countMost < l .count))
     (cond (eqb n 7) ((model ≡ original) × SoundList l)
-    (cond (eqb n 8) ((model ≡ relaxed) × SoundList l × (cycleMost < cycleOf l)) ⊥))))
+    (cond (eqb n 8) ((model ≡ relaxed) × SoundList l × (h : ℕ) × LeastCommonMultiple l h × (cycleMost < h)) ⊥))))
 RowSays l model n (i ∷ []) = (model ≤ original) × LowestFault l n i
 RowSays l model n (h ∷ d ∷ []) =
     cond (eqb n 9) (Judged l model h d × (h < d)) (cond (eqb n 0) (Judged l model h d × (d ≤ h)) ⊥)
@@ -54,11 +57,14 @@ module _ (l : JobList) (model : ℕ) where
   seven-given s = verdict-original l model (passes-exactly l .1 (s .1)) (s .0)
 
   eight-given : Given (row 8 [])
-  eight-given s = verdict-long l model (passes-exactly l .1 (s .1)) (s .0) (s .2)
+  eight-given s =
+      verdict-long l model (passes-exactly l .1 (s .1)) (s .0)
+      (subst (λ (h : ℕ). cycleMost < h) (cycle-is l (s .1) (s .3)) (s .4))
 
   judged-given : {h d : ℕ} → Judged l model h d → verdictTold l model ≡ judgedTold h d
-  judged-given j =
-      cc (verdict-judged l model (passes-exactly l .1 (j .sound)) (j .model-relaxed) (j .cycle-short), j .cycle, j .load)
+  judged-given {h} j =
+      let cycle : h ≡ cycleOf l = cycle-is l (j .sound) (j .cycle) in
+      cc (verdict-judged l model (passes-exactly l .1 (j .sound)) (j .model-relaxed) (omega arith), load-is (j .load))
 
   nine-given : (h d : ℕ) → Given (row 9 (h ∷ d ∷ []))
   nine-given h d s = judged-given (s .0) ∙ judged-over (s .1)
@@ -77,7 +83,13 @@ module _ (l : JobList) (model : ℕ) where
       judged : eqb model original ≡ false → ltb cycleMost (cycleOf l) ≡ false → Judged l model (cycleOf l) (loadOf l (cycleOf l))
       judged other long =
           let different = eqb-false model original other in
-          record { model-relaxed = omega arith; sound = s; cycle-short = ltb-false cycleMost (cycleOf l) long; cycle = refl; load = refl }
+          record {
+            model-relaxed = omega arith;
+            sound = s;
+            cycle = cycle-multiple l s;
+            cycle-short = ltb-false cycleMost (cycleOf l) long;
+            load = load-exact l (cycle-multiple l s .common);
+          }
 
       go :
           (other long over : Bool) → eqb model original ≡ other → ltb cycleMost (cycleOf l) ≡ long
@@ -85,7 +97,7 @@ module _ (l : JobList) (model : ℕ) where
       go true long over e f g = say (row 7 []) seven-given (eqb-true model original e, s)
       go false true over e f g =
           let different = eqb-false model original e in
-          say (row 8 []) eight-given (omega arith, s, ltb-true cycleMost (cycleOf l) f)
+          say (row 8 []) eight-given (omega arith, s, cycleOf l, cycle-multiple l s, ltb-true cycleMost (cycleOf l) f)
       go false false true e f g =
           say (row 9 (cycleOf l ∷ loadOf l (cycleOf l) ∷ [])) (nine-given (cycleOf l) (loadOf l (cycleOf l)))
           (judged e f, ltb-true (cycleOf l) (loadOf l (cycleOf l)) g)
@@ -106,26 +118,48 @@ module _ (l : JobList) (model : ℕ) where
   exactly : (t : Told) → Given t → (verdictTold l model ≡ t) ↔ Says l model t
   exactly t given = (λ e. subst (Says l model) e holds, given)
 
-pub row-fifteen-exactly : RowFifteenExactly
+pub row-fifteen-exactly : (l : JobList) (model : ℕ) → (verdictTold l model ≡ row 15 []) ↔ (original < model)
 row-fifteen-exactly l model = exactly l model (row 15 []) (verdict-strange l model)
 
-pub row-one-exactly : RowOneExactly
+pub row-one-exactly :
+    (l : JobList) (model : ℕ) → (verdictTold l model ≡ row 1 []) ↔ ((model ≤ original) × (l .count ≡ 0))
 row-one-exactly l model = exactly l model (row 1 []) (one-given l model)
 
-pub row-two-exactly : RowTwoExactly
+pub row-two-exactly :
+    (l : JobList) (model : ℕ) → (verdictTold l model ≡ row 2 []) ↔ ((model ≤ original) × (countMost < l .count))
 row-two-exactly l model = exactly l model (row 2 []) (two-given l model)
 
-pub job-rows-exactly : JobRowsExactly
+pub job-rows-exactly :
+    (l : JobList) (model n i : ℕ) → (verdictTold l model ≡ row n (i ∷ [])) ↔ ((model ≤ original) × LowestFault l n i)
 job-rows-exactly l model n i = exactly l model (row n (i ∷ [])) (fault-given l model n i)
 
-pub row-seven-exactly : RowSevenExactly
+pub row-seven-exactly : (l : JobList) (model : ℕ) → (verdictTold l model ≡ row 7 []) ↔ ((model ≡ original) × SoundList l)
 row-seven-exactly l model = exactly l model (row 7 []) (seven-given l model)
 
-pub row-eight-exactly : RowEightExactly
+pub row-eight-exactly :
+    (l : JobList) (model : ℕ)
+    → (verdictTold l model ≡ row 8 [])
+    ↔ ((model ≡ relaxed) × SoundList l × (h : ℕ) × LeastCommonMultiple l h × (cycleMost < h))
 row-eight-exactly l model = exactly l model (row 8 []) (eight-given l model)
 
-pub row-nine-exactly : RowNineExactly
+pub row-nine-exactly :
+    (l : JobList) (model h d : ℕ) → (verdictTold l model ≡ row 9 (h ∷ d ∷ [])) ↔ (Judged l model h d × (h < d))
 row-nine-exactly l model h d = exactly l model (row 9 (h ∷ d ∷ [])) (nine-given l model h d)
 
-pub admitted-exactly : AdmittedExactly
+pub admitted-exactly :
+    (l : JobList) (model h d : ℕ) → (verdictTold l model ≡ row 0 (h ∷ d ∷ [])) ↔ (Judged l model h d × (d ≤ h))
 admitted-exactly l model h d = exactly l model (row 0 (h ∷ d ∷ [])) (admitted-given l model h d)
+
+pub verdicts : Verdicts
+verdicts l model r e =
+    subst (VerdictRows l model) (sym e)
+    (record {
+      row-fifteen = row-fifteen-exactly l model;
+      row-one = row-one-exactly l model;
+      row-two = row-two-exactly l model;
+      job-rows = job-rows-exactly l model;
+      row-seven = row-seven-exactly l model;
+      row-eight = row-eight-exactly l model;
+      row-nine = row-nine-exactly l model;
+      admitted = admitted-exactly l model;
+    })

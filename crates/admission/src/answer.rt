@@ -1,6 +1,5 @@
 // What admission answers.
-ghost use mathlib.Core.Path.{_≡_};
-ghost use Rattle.admission.specs.Answer.{toldAdmission, cycleReturned, loadReturned};
+ghost use Rattle.admission.specs.Promise.{AdmissionNumberPromise, CyclePromise, LoadPromise};
 use job::Refusal;
 
 pub enum Admission {
@@ -11,7 +10,7 @@ pub enum Admission {
 impl Admission {
     // 0, or the row's number.
     pub fn number(self) -> u32
-        ensures { λ r. ⌜ r ≡ toldAdmission self .number ⌝ }
+        ensures { λ r. ⌜ AdmissionNumberPromise self r ⌝ }
     {
         match self {
             Admission::Admitted { cycle: _, load: _ } => 0,
@@ -21,7 +20,7 @@ impl Admission {
 
     // 'Cycle and load are 0 in each refusal but 9, which returns both.'
     pub fn cycle(self) -> u64
-        ensures { λ r. ⌜ r ≡ cycleReturned (toldAdmission self) ⌝ }
+        ensures { λ r. ⌜ CyclePromise self r ⌝ }
     {
         match self {
             Admission::Admitted { cycle, load: _ } => cycle,
@@ -36,7 +35,7 @@ impl Admission {
     }
 
     pub fn load(self) -> u64
-        ensures { λ r. ⌜ r ≡ loadReturned (toldAdmission self) ⌝ }
+        ensures { λ r. ⌜ LoadPromise self r ⌝ }
     {
         match self {
             Admission::Admitted { cycle: _, load } => load,

@@ -1,7 +1,8 @@
 // The verdict on a list by value: 15 for the model, 1, 2, 3 to 6, 7, 8, 9.
 ghost use mathlib.Core.Path.{_≡_};
 ghost use Rattle.admission.specs.Answer.{toldAdmission};
-ghost use Rattle.admission.specs.Verdict.{judgedTold, verdictTold};
+ghost use Rattle.admission.specs.Promise.{VerdictPromise};
+ghost use Rattle.admission.specs.Verdict.{judgedTold};
 use crate::answer::Admission;
 use crate::inner;
 use crate::inner::Cycle;
@@ -21,7 +22,7 @@ fn judged(cycle: u64, load: u64) -> Admission
 }
 
 pub fn verdict(list: JobList, model: u32) -> Admission
-    ensures { λ r. ⌜ toldAdmission r ≡ verdictTold list model ⌝ }
+    ensures { λ r. ⌜ VerdictPromise list model r ⌝ }
 {
     if Job::ORIGINAL < model {
         return Admission::Refused(Refusal::OrderOrModel);

@@ -6,6 +6,7 @@ ghost use Prim.Native.Nat.{_<_, _≤_};
 ghost use Rattle.job.specs.Limit.{countMost};
 ghost use Rattle.admission.specs.Answer.{toldAdmission};
 ghost use Rattle.admission.specs.Lent.{putJob, listOf, admitOf};
+ghost use Rattle.admission.specs.Promise.{AdmitPromise, AdmitFirstPromise};
 use crate::answer::Admission;
 use crate::decide::verdict;
 use job::Job;
@@ -35,7 +36,7 @@ fn gather(jobs: &[Job]) -> JobList
 }
 
 pub fn admit(jobs: &[Job], model: u32) -> Admission
-    ensures { λ r. ⌜ toldAdmission r ≡ admitOf (now (jobs .entry)) model ⌝ }
+    ensures { λ r. ⌜ AdmitPromise (now (jobs .entry)) model r ⌝ }
 {
     verdict(gather(jobs), model)
 }
@@ -50,7 +51,7 @@ fn lend_first(jobs: [Job; 40], n: usize, model: u32) -> Admission
 
 // Admits the first `n` of an array by value, by slice; all 40 where `n` is larger.
 pub fn admit_first(jobs: [Job; 40], n: usize, model: u32) -> Admission
-    ensures { λ r. ⌜ toldAdmission r ≡ admitOf (take n jobs) model ⌝ }
+    ensures { λ r. ⌜ AdmitFirstPromise jobs n model r ⌝ }
 {
     if 40 < n {
         return lend_first(jobs, 40, model);

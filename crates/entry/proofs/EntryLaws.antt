@@ -1,5 +1,5 @@
 -- The answers of the two entries and the bytes of a fill, by their tests.
-use mathlib.Core.Path.{_≡_, refl, sym, ap, _∙_}
+use mathlib.Core.Path.{_≡_, refl, sym, _∙_}
 use mathlib.Core.Bool.{Bool, true, false}
 use mathlib.Core.List.{List, []}
 use Prim.Native.Nat.{ℕ, _%_}
@@ -8,12 +8,13 @@ use lib.ListN.{length}
 use borrow.Author.Tests.{eq-eqb, ne-eqb}
 use Rattle.job.specs.Told.{Told, row}
 use Rattle.job.specs.Check.{otherwise}
+use Rattle.admission.specs.Verdict.{verdictTold}
 use Rattle.place.specs.declared.setting.Setting.{Setting}
 use Rattle.run.specs.Step.{startTold, startState}
 use Rattle.timetable.specs.Table.{writeTold, writeBytes}
 use Rattle.entry.specs.JobBytes.{listFrom}
 use Rattle.entry.specs.Entry.{wholeJobs, admitTold, fillTold, fillBytes}
-use Rattle.entry.specs.Meaning.{Whole, WritesOn, AdmitJudges, FillStarts, FillWrites, FillKeeps}
+use Rattle.entry.specs.Meaning.{Whole}
 use Rattle.job.proofs.CheckLaws.{otherwise-refused}
 
 -- the test of row 14
@@ -31,9 +32,9 @@ pub admit-broken : (jobs : List ℕ) (model : ℕ) → (Whole jobs → ⊥) → 
 unfolding admitTold
 admit-broken jobs model broken = broken-told jobs _ broken
 
-pub admit-judges : AdmitJudges
+pub admit-whole : (jobs : List ℕ) (model : ℕ) → Whole jobs → admitTold jobs model ≡ verdictTold (listFrom jobs) model
 unfolding admitTold
-admit-judges jobs model whole = whole-told jobs _ whole
+admit-whole jobs model whole = whole-told jobs _ whole
 
 -- a fill
 pub fill-broken :
@@ -41,10 +42,21 @@ pub fill-broken :
 unfolding fillTold
 fill-broken jobs setting len offset n broken = broken-told jobs _ broken
 
-pub fill-starts : FillStarts
+pub fill-starts :
+    (jobs : List ℕ) (setting : Setting) (len offset n : ℕ) → Whole jobs
+    → eqb (startTold (listFrom jobs) setting .number) 0 ≡ false
+    → fillTold jobs setting len offset n ≡ startTold (listFrom jobs) setting
 unfolding fillTold
 fill-starts jobs setting len offset n whole refused =
     whole-told jobs _ whole ∙ otherwise-refused (startTold (listFrom jobs) setting) _ refused
+
+-- it answers as the writer does on the state that was started, which also leaves the bytes
+pub record WritesOn (jobs : List ℕ) (setting : Setting) (bytes : List ℕ) (offset n : ℕ) : Type 0 where
+  pub told-is :
+      fillTold jobs setting (length bytes) offset n
+      ≡ writeTold (startState (listFrom jobs) setting) (length bytes) offset n
+  pub bytes-are :
+      fillBytes jobs setting bytes offset n ≡ writeBytes (startState (listFrom jobs) setting) bytes offset n
 
 module _ (jobs : List ℕ) (setting : Setting) (bytes : List ℕ) (offset n : ℕ) where
   -- a refused fill leaves every byte
@@ -73,10 +85,8 @@ module _ (jobs : List ℕ) (setting : Setting) (bytes : List ℕ) (offset n : �
     pub writes-on : WritesOn jobs setting bytes offset n
     writes-on = record { told-is = goes-on; bytes-are = bytes-by (eqb (written .number) 0) refl }
 
-pub fill-writes : FillWrites
-fill-writes jobs setting bytes offset n whole passes =
-    writes-on jobs setting bytes offset n whole (ap (λ (t : Told). t .number) passes)
-
-pub fill-keeps : FillKeeps
+pub fill-keeps :
+    (jobs : List ℕ) (setting : Setting) (bytes : List ℕ) (offset n : ℕ)
+    → (fillTold jobs setting (length bytes) offset n .number ≡ 0 → ⊥) → fillBytes jobs setting bytes offset n ≡ bytes
 fill-keeps jobs setting bytes offset n refused =
     sym (bytes-stay jobs setting bytes offset n refl (ne-eqb (fillTold jobs setting (length bytes) offset n .number) 0 refused))

@@ -1,36 +1,46 @@
 -- The statements of specs/Meaning about the numbers of the two entries: what each row says, and that it is given wherever that holds.
 use mathlib.Core.Path.{_≡_, refl, sym, ap, subst, _∙_}
 use mathlib.Core.Bool.{Bool, true, false, _&&_, cond}
-use mathlib.Core.Logic.{_⊎_, inl, inr}
+use mathlib.Core.Logic.{_↔_, _⊎_, inl, inr, ⊎-elim}
 use mathlib.Core.List.{List}
-use Prim.Native.Nat.{ℕ, _+_, _%_, _≤_, _<_}
+use Prim.Native.Nat.{ℕ, _+_, _≤_, _<_}
 use native.Mathlib.Omega.{arith}
 use lib.Dec.{leb, ltb, eqb}
-use lib.ListN.{length}
-use borrow.Author.Tests.{eqb-true, eqb-false, leb-true, leb-false, le-leb, ne-eqb}
+use lib.ListN.{length, take, drop}
+use borrow.Author.Tests.{leb-true, leb-false, le-leb, ne-eqb}
 use Rattle.job.specs.declared.record.Job.{Job}
 use Rattle.job.specs.declared.list.JobList.{JobList}
 use Rattle.job.specs.Limit.{original, cycleMost}
-use Rattle.job.specs.Told.{Told, passed}
+use Rattle.job.specs.declared.refusal.Checked.{Checked}
+use Rattle.job.specs.declared.refusal.Checked.the-variants.{Passed}
+use Rattle.job.specs.Told.{Told, passed, toldChecked}
+use Rattle.job.specs.Promise.{ListCheckPromise}
+use Rattle.job.proofs.ToldLaws.{checked-one-to-one}
 use Rattle.job.specs.Check.{otherwise, listTold}
 use Rattle.job.specs.Sound.{SoundList, FaultOf, t-fault, c-fault, k-fault, m-fault}
 use Rattle.admission.specs.Cycle.{cycleOf}
 use Rattle.admission.specs.Load.{loadOf}
 use Rattle.admission.specs.Verdict.{judgedTold, verdictTold}
 use Rattle.place.specs.declared.setting.Setting.{Setting}
-use Rattle.place.specs.Setting.{settingAllowed}
+use Rattle.place.specs.Sound.{Allowed}
 use Rattle.run.specs.declared.state.State.{State}
 use Rattle.run.specs.State.{clockMost}
 use Rattle.run.specs.Range.{stateInRange}
+use Rattle.run.specs.Sound.{SoundState}
 use Rattle.run.specs.Step.{startTold, startState}
-use Rattle.timetable.specs.Table.{writeTold}
+use Rattle.timetable.specs.Table.{writeTold, writeState, writeBytes}
+use Rattle.timetable.specs.Meaning.{Room, Stays}
+use Rattle.timetable.proofs.Meaning.{choices-written}
 use Rattle.entry.specs.JobBytes.{listFrom}
-use Rattle.entry.specs.Meaning.{Whole, fillNumber, Starts, AdmitRowFourteen, FillRowFourteen, FillRowFifteen, FillListRows, FillRowTwelve, FillRowEleven, FillPasses, FillNeverTen}
+use Rattle.entry.specs.Entry.{admitTold, fillTold, fillBytes}
+use Rattle.entry.specs.Meaning.{BytesOfList, Whole, AdmitEntryAnswers, Starts, FillsRun, FillAnswers, FillRowFourteen}
 use Rattle.job.proofs.Meaning.{ListView, no-jobs, many-jobs, sound-list, faulty-list, list-view, passes-exactly, row-one-exactly, row-two-exactly, job-rows-exactly}
 use Rattle.run.proofs.RangeLaws.{range-exactly}
-use Rattle.run.proofs.StartLaws.{start-checks, not-started, state-passed, start-sound}
+use Rattle.admission.proofs.LentMeaning.{same-verdict}
+use Rattle.run.proofs.StartLaws.{start-checks, state-passed, start-sound, allowed-or, start-row-fifteen, start-alike, state-alike}
 use Rattle.timetable.proofs.WriteLaws.{refused-twelve, refused-eleven, writes-on}
-use Rattle.entry.proofs.EntryLaws.{admit-broken, admit-judges, fill-broken, fill-starts, fill-writes}
+use Rattle.entry.proofs.JobLaws.{read-holds, held-whole, held-same, read-is}
+use Rattle.entry.proofs.EntryLaws.{WritesOn, admit-broken, admit-whole, fill-broken, fill-starts, fill-keeps, writes-on as write-on}
 
 -- two equal answers have one number
 numbered : {a b : Told} → a ≡ b → a .number ≡ b .number
@@ -84,65 +94,99 @@ verdict-other l model =
     (either (ltb h d) _ _ (λ e. omega arith) (λ e. omega arith))))
     (list-other l))
 
-pub admit-row-fourteen : AdmitRowFourteen
-admit-row-fourteen jobs model =
-    (λ e whole. verdict-other (listFrom jobs) model (numbered (sym (admit-judges jobs model whole)) ∙ e), λ broken. numbered (admit-broken jobs model broken))
+-- what the entries return
+abbrev admitNumber : List ℕ → ℕ → ℕ
+admitNumber jobs model = admitTold jobs model .number
 
--- a fill
-module _ (jobs : List ℕ) (setting : Setting) (bytes : List ℕ) (offset n : ℕ) where
+abbrev fillNumber : List ℕ → Setting → List ℕ → ℕ → ℕ → ℕ
+fillNumber jobs setting bytes offset n = fillTold jobs setting (length bytes) offset n .number
+
+admit-row-fourteen : (jobs : List ℕ) (model : ℕ) → (admitNumber jobs model ≡ 14) ↔ (Whole jobs → ⊥)
+admit-row-fourteen jobs model =
+    (λ e whole. verdict-other (listFrom jobs) model (numbered (sym (admit-whole jobs model whole)) ∙ e), λ broken. numbered (admit-broken jobs model broken))
+
+admit-as : (jobs : List ℕ) (l : JobList) (model : ℕ) → BytesOfList jobs l → admitTold jobs model ≡ verdictTold l model
+admit-as jobs l model held =
+    admit-whole jobs model (held-whole jobs l held)
+    ∙ ap (λ (x : JobList). verdictTold x model) (read-is jobs l held)
+    ∙ same-verdict (listFrom jobs .jobs) (l .jobs) (l .count) model (held-same jobs l held)
+
+pub admit-entry-answers : AdmitEntryAnswers
+admit-entry-answers jobs model r promise =
+    record {
+      row-fourteen = rw promise (admit-row-fourteen jobs model);
+      judges = λ l held a verdict. promise ∙ numbered (admit-as jobs l model held ∙ sym verdict);
+    }
+
+-- a fill of the bytes of a list
+module _ (jobs : List ℕ) (l : JobList) (held : BytesOfList jobs l) (setting : Setting) (bytes : List ℕ) (offset n : ℕ) where
   abbrev number : ℕ
   number = fillNumber jobs setting bytes offset n
 
+  whole : Whole jobs
+  whole = held-whole jobs l held
+
+  -- its start is the list's
+  start-is : startTold (listFrom jobs) setting ≡ startTold l setting
+  start-is =
+      ap (λ (x : JobList). startTold x setting) (read-is jobs l held) ∙ start-alike l (listFrom jobs .jobs) setting (held-same jobs l held)
+
+  state-is : startState (listFrom jobs) setting ≡ startState l setting
+  state-is =
+      ap (λ (x : JobList). startState x setting) (read-is jobs l held) ∙ state-alike l (listFrom jobs .jobs) setting (held-same jobs l held)
+
   -- what a number says of the arguments
   abbrev ListRow : ℕ → Type 0
-  ListRow r = Whole jobs × (settingAllowed setting ≡ true) × (listTold (listFrom jobs) .number ≡ r)
+  ListRow r = Allowed setting × (listTold l .number ≡ r)
 
   abbrev Says : ℕ → Type 0
   Says r =
       cond (leb 1 r && leb r 6) (ListRow r)
-      (cond (eqb r 14) (Whole jobs → ⊥)
-      (cond (eqb r 15) (Whole jobs × (settingAllowed setting ≡ false))
-      (cond (eqb r 12) (Starts jobs setting × (length bytes < offset + n))
-      (cond (eqb r 11) (Starts jobs setting × (offset + n ≤ length bytes) × (clockMost < n))
-      (cond (eqb r 0) (Starts jobs setting × (offset + n ≤ length bytes) × (n ≤ clockMost)) ⊥)))))
+      (cond (eqb r 15) (Allowed setting → ⊥)
+      (cond (eqb r 12) (Starts l setting × (length bytes < offset + n))
+      (cond (eqb r 11) (Starts l setting × (offset + n ≤ length bytes) × (clockMost < n))
+      (cond (eqb r 0) (Starts l setting × (offset + n ≤ length bytes) × (n ≤ clockMost)) ⊥))))
 
   -- where that holds, the number is returned
   abbrev Given : ℕ → Type 0
   Given r = Says r → number ≡ r
 
-  refused-given : Whole jobs → {t : Told} → startTold (listFrom jobs) setting ≡ t → eqb (t .number) 0 ≡ false → number ≡ t .number
-  refused-given whole e refused =
+  refused-given : {t : Told} → startTold l setting ≡ t → eqb (t .number) 0 ≡ false → number ≡ t .number
+  refused-given e refused =
       numbered
-      (fill-starts jobs setting (length bytes) offset n whole (ap (λ (t : Told). eqb (t .number) 0) e ∙ refused) ∙ e)
-
-  fourteen-given : Given 14
-  fourteen-given broken = numbered (fill-broken jobs setting (length bytes) offset n broken)
+      (fill-starts jobs setting (length bytes) offset n whole (ap (λ (t : Told). eqb (t .number) 0) (start-is ∙ e) ∙ refused)
+      ∙ start-is
+      ∙ e)
 
   fifteen-given : Given 15
-  fifteen-given s = refused-given (s .0) (not-started (listFrom jobs) setting (s .1)) refl
+  fifteen-given strange = refused-given (start-row-fifteen l setting .1 strange) refl
 
   list-given : (r : ℕ) → 1 ≤ r → ListRow r → number ≡ r
   list-given r some s =
-      refused-given (s .0) (start-checks (listFrom jobs) setting (s .1)) (ne-eqb (listTold (listFrom jobs) .number) 0 (omega arith)) ∙ s .2
+      refused-given (start-checks l setting (s .0)) (ne-eqb (listTold l .number) 0 (omega arith)) ∙ s .1
 
   abbrev state : State
-  state = startState (listFrom jobs) setting
+  state = startState l setting
 
-  module _ (starts : Starts jobs setting) where
-    start-passes : startTold (listFrom jobs) setting ≡ passed
-    start-passes =
-        start-checks (listFrom jobs) setting (starts .allowed) ∙ passes-exactly (listFrom jobs) .1 (starts .sound)
+  module _ (starts : Starts l setting) where
+    start-passes : startTold l setting ≡ passed
+    start-passes = start-checks l setting (starts .allowed) ∙ passes-exactly l .1 (starts .sound)
+
+    started-sound : SoundState state
+    started-sound = start-sound l setting start-passes
 
     in-range : stateInRange state ≡ true
-    in-range = range-exactly state .1 (start-sound (listFrom jobs) setting start-passes)
+    in-range = range-exactly state .1 started-sound
 
     at-zero : state .clock ≡ 0
-    at-zero = ap (λ (s : State). s .clock) (state-passed (listFrom jobs) setting start-passes)
+    at-zero = ap (λ (s : State). s .clock) (state-passed l setting start-passes)
+
+    on : WritesOn jobs setting bytes offset n
+    on = write-on jobs setting bytes offset n whole (numbered (start-is ∙ start-passes))
 
     written-given : {t : Told} → t ≡ writeTold state (length bytes) offset n → number ≡ t .number
     written-given e =
-        numbered
-        (fill-writes jobs setting bytes offset n (starts .whole) start-passes .told-is ∙ sym e)
+        numbered (on .told-is ∙ ap (λ (s : State). writeTold s (length bytes) offset n) state-is ∙ sym e)
 
   twelve-given : Given 12
   twelve-given s = written-given (s .0) (refused-twelve state bytes offset n (in-range (s .0)) (s .1) .told-is)
@@ -159,13 +203,10 @@ module _ (jobs : List ℕ) (setting : Setting) (bytes : List ℕ) (offset n : �
   list-says : (r : ℕ) → 1 ≤ r → r ≤ 6 → ListRow r → Says r
   list-says r some few s = rw (le-leb 1 r some, le-leb r 6 few) s
 
-  said-list : (r : ℕ) → 1 ≤ r → r ≤ 6 → Says r → ListRow r
-  said-list r some few s = rw (le-leb 1 r some, le-leb r 6 few) at s
-
   say : (r : ℕ) → Given r → Says r → Says number
   say r given s = subst Says (sym (given s)) s
 
-  writing : Starts jobs setting → Says number
+  writing : Starts l setting → Says number
   writing s = go (leb (offset + n) (length bytes)) (leb n clockMost) refl refl
     where
       go : (fits early : Bool) → leb (offset + n) (length bytes) ≡ fits → leb n clockMost ≡ early → Says number
@@ -176,45 +217,75 @@ module _ (jobs : List ℕ) (setting : Setting) (bytes : List ℕ) (offset n : �
 
   holds : Says number
   unfolding Faulty
-  holds = go (eqb (length jobs % 6) 0) (settingAllowed setting) refl refl (list-row (listFrom jobs))
+  holds = ⊎-elim (λ a. go a (list-row l)) (λ e. say 15 fifteen-given (start-row-fifteen l setting .0 e)) (allowed-or l setting)
     where
-      go :
-          (whole allowed : Bool) → eqb (length jobs % 6) 0 ≡ whole → settingAllowed setting ≡ allowed
-          → SoundList (listFrom jobs) ⊎ Faulty (listFrom jobs) → Says number
-      go false allowed w a l = say 14 fourteen-given (eqb-false (length jobs % 6) 0 w)
-      go true false w a l = say 15 fifteen-given (eqb-true (length jobs % 6) 0 w, a)
-      go true true w a (inl s) = writing (record { whole = eqb-true (length jobs % 6) 0 w; allowed = a; sound = s })
-      go true true w a (inr f) =
-          let r = listTold (listFrom jobs) .number in
-          let row : ListRow r = (eqb-true (length jobs % 6) 0 w, a, refl) in
+      go : Allowed setting → SoundList l ⊎ Faulty l → Says number
+      go a (inl s) = writing (record { allowed = a; sound = s })
+      go a (inr f) =
+          let r = listTold l .number in
+          let row : ListRow r = (a, refl) in
           say r (λ _. list-given r (f .0) row) (list-says r (f .0) (f .1) row)
 
-  says : (r : ℕ) → number ≡ r → Says r
+  pub says : (r : ℕ) → number ≡ r → Says r
   says r e = subst Says e holds
 
+  -- where it is 0, a run is written
+  fills : number ≡ 0 → FillsRun l setting bytes offset n (fillBytes jobs setting bytes offset n)
+  fills e =
+      let s = says 0 e in
+      let starts = s .0 in
+      let room : Room state (length bytes) offset n =
+      record { sound = started-sound starts; fits = s .1; clock = omega (arith, at-zero starts, s .2) } in
+      let wrote = choices-written state bytes offset n room in
+      let after : fillBytes jobs setting bytes offset n ≡ writeBytes state bytes offset n =
+      on starts .bytes-are ∙ ap (λ (x : State). writeBytes x bytes offset n) state-is in
+      record {
+        slots = wrote .slots;
+        state = writeState state (length bytes) offset n;
+        long = wrote .long;
+        run =
+            record {
+              started = record { answer = Passed; state = state };
+              promise = (sym (start-passes starts), refl);
+              passes = refl;
+              steps = wrote .steps;
+            };
+        choices = ap (λ (x : List ℕ). take n (drop offset x)) after ∙ wrote .choices;
+        stays = subst (λ (x : List ℕ). Stays bytes x offset n) (sym after) (wrote .stays);
+      }
+
+  -- a list that its check refuses
+  refused-list : Allowed setting → (c : Checked) → ListCheckPromise l c → (c ≡ Passed → ⊥) → number ≡ toldChecked c .number
+  unfolding Faulty
+  refused-list a c check refused = go (list-row l)
+    where
+      go : SoundList l ⊎ Faulty l → number ≡ toldChecked c .number
+      go (inl s) = absurd (refused (checked-one-to-one c Passed (check ∙ passes-exactly l .1 s)))
+      go (inr f) = list-given (listTold l .number) (f .0) (a, refl) ∙ numbered (sym check)
+
+pub fill-answers : FillAnswers
+fill-answers jobs l held order model before offset n r after promise =
+    let s : Setting = record { order = order; model = model } in
+    let is : r ≡ fillNumber jobs s before offset n = promise .0 in
+    record {
+      row-fifteen = rw is (says jobs l held s before offset n 15, fifteen-given jobs l held s before offset n);
+      list-rows = λ a c check refused. is ∙ refused-list jobs l held s before offset n a c check refused;
+      row-twelve = rw is (says jobs l held s before offset n 12, twelve-given jobs l held s before offset n);
+      row-eleven = rw is (says jobs l held s before offset n 11, eleven-given jobs l held s before offset n);
+      passes = rw is (says jobs l held s before offset n 0, zero-given jobs l held s before offset n);
+      runs =
+          λ zero.
+          subst (FillsRun l s before offset n) (sym (promise .1)) (fills jobs l held s before offset n (sym is ∙ zero));
+      keeps = λ refused. promise .1 ∙ fill-keeps jobs s before offset n (λ e. refused (is ∙ e));
+    }
+
 pub fill-row-fourteen : FillRowFourteen
-fill-row-fourteen jobs setting bytes offset n =
-    (says jobs setting bytes offset n 14, fourteen-given jobs setting bytes offset n)
-
-pub fill-row-fifteen : FillRowFifteen
-fill-row-fifteen jobs setting bytes offset n =
-    (says jobs setting bytes offset n 15, fifteen-given jobs setting bytes offset n)
-
-pub fill-list-rows : FillListRows
-fill-list-rows jobs setting bytes offset n r some few =
-    (λ e. said-list jobs setting bytes offset n r some few (says jobs setting bytes offset n r e), list-given jobs setting bytes offset n r some)
-
-pub fill-row-twelve : FillRowTwelve
-fill-row-twelve jobs setting bytes offset n =
-    (says jobs setting bytes offset n 12, twelve-given jobs setting bytes offset n)
-
-pub fill-row-eleven : FillRowEleven
-fill-row-eleven jobs setting bytes offset n =
-    (says jobs setting bytes offset n 11, eleven-given jobs setting bytes offset n)
-
-pub fill-passes : FillPasses
-fill-passes jobs setting bytes offset n =
-    (says jobs setting bytes offset n 0, zero-given jobs setting bytes offset n)
-
-pub fill-never-ten : FillNeverTen
-fill-never-ten jobs setting bytes offset n = says jobs setting bytes offset n 10
+fill-row-fourteen jobs order model before offset n r after promise =
+    let s : Setting = record { order = order; model = model } in
+    let is : r ≡ fillNumber jobs s before offset n = promise .0 in (
+      (
+        λ e whole. says jobs (listFrom jobs) (read-holds jobs whole) s before offset n 14 (sym is ∙ e),
+        λ broken. is ∙ numbered (fill-broken jobs s (length before) offset n broken),
+      ),
+      λ e. promise .1 ∙ fill-keeps jobs s before offset n (λ zero. absurd (omega (arith, is, e, zero))),
+    )

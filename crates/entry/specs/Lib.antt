@@ -1,4 +1,5 @@
 -- What the contracts of the C entries say, and what a reader may conclude from them.
 pub mod JobBytes
 pub mod Entry
+pub mod Promise
 pub mod Meaning

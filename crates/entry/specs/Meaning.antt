@@ -1,120 +1,93 @@
--- What a reader may conclude from the two entries. Each statement is proved in proofs/, under its name.
+-- What the two entries return and leave, whatever their promises allow. Each statement is proved in proofs/, under its name.
+use Prim.Native.Nat.{ℕ, _+_, _*_, _%_, _≤_, _<_}
 use mathlib.Core.Path.{_≡_}
 use mathlib.Core.Logic.{_↔_}
-use mathlib.Core.Bool.{true, false}
 use mathlib.Core.List.{List}
-use Prim.Native.Nat.{ℕ, _+_, _*_, _%_, _≤_, _<_}
-use lib.Dec.{eqb}
-use lib.ListN.{length}
+use lib.ListN.{length, getD, take, drop}
+use Rattle.job.specs.declared.record.Job.{Job}
+use Rattle.job.specs.declared.list.JobList.{JobList}
 use Rattle.job.specs.Limit.{countMost}
-use Rattle.job.specs.Told.{passed}
-use Rattle.job.specs.Check.{jobAt, listTold}
+use Rattle.job.specs.declared.refusal.Checked.{Checked}
+use Rattle.job.specs.declared.refusal.Checked.the-variants.{Passed}
+use Rattle.job.specs.Told.{toldChecked}
+use Rattle.job.specs.Check.{noJob}
 use Rattle.job.specs.Sound.{SoundList}
-use Rattle.admission.specs.Verdict.{verdictTold}
+use Rattle.job.specs.Promise.{ListCheckPromise}
+use Rattle.admission.specs.declared.answer.Admission.{Admission}
+use Rattle.admission.specs.Answer.{toldAdmission}
+use Rattle.admission.specs.Promise.{VerdictPromise}
 use Rattle.place.specs.declared.setting.Setting.{Setting}
-use Rattle.place.specs.Setting.{settingAllowed}
+use Rattle.place.specs.Sound.{Allowed}
+use Rattle.run.specs.declared.state.State.{State}
+use Rattle.run.specs.declared.answer.Slot.{Slot}
 use Rattle.run.specs.State.{clockMost}
-use Rattle.run.specs.Step.{startTold, startState}
-use Rattle.timetable.specs.Table.{writeTold, writeBytes}
-use Rattle.entry.specs.JobBytes.{jobFrom, listFrom}
-use Rattle.entry.specs.Entry.{admitTold, fillTold, fillBytes}
+use Rattle.run.specs.Calls.{Run, bytesOf}
+use Rattle.timetable.specs.Meaning.{Stays}
+use Rattle.entry.specs.Promise.{AdmitEntryPromise, FillEntryPromise}
 
--- '6 a job': the bytes are whole jobs
+-- 'C and T (16 bits, low byte first), m, k': job j stands in the six bytes from `at` on
+pub record JobStands (bytes : List ℕ) (at : ℕ) (j : Job) : Type 0 where
+  pub c-is : j .c ≡ getD bytes at 0 + 256 * getD bytes (at + 1) 0
+  pub t-is : j .t ≡ getD bytes (at + 2) 0 + 256 * getD bytes (at + 3) 0
+  pub m-is : j .m ≡ getD bytes (at + 4) 0
+  pub k-is : j .k ≡ getD bytes (at + 5) 0
+
+-- 'job bytes, 6 a job': the bytes are those of the list, as far as its 16 records reach
+pub record BytesOfList (bytes : List ℕ) (l : JobList) : Type 0 where
+  pub whole : length bytes ≡ l .count * 6
+  pub each : (i : ℕ) → i < l .count → i < countMost → JobStands bytes (i * 6) (getD (l .jobs) i noJob)
+
+-- bytes of whole jobs are those of some list
 abbrev pub Whole : List ℕ → Type 0
-Whole jobs = length jobs % 6 ≡ 0
+Whole bytes = length bytes % 6 ≡ 0
 
--- the list that whole jobs hold: how many, and each of those that have a record
-abbrev pub JobsCounted : Type 0
-JobsCounted = (jobs : List ℕ) → Whole jobs → listFrom jobs .count * 6 ≡ length jobs
+abbrev pub WholeExactly : Type 0
+WholeExactly = (bytes : List ℕ) → Whole bytes ↔ ((l : JobList) × BytesOfList bytes l)
 
-abbrev pub JobsRead : Type 0
-JobsRead =
-    (jobs : List ℕ) (i : ℕ) → i < listFrom jobs .count → i < countMost → jobAt (listFrom jobs .jobs) i ≡ jobFrom jobs i
+-- `filbertoss_admit`: '14: job bytes not a multiple of 6'; otherwise it answers as `verdict` does on the list
+pub record AdmitEntryTold (jobs : List ℕ) (model r : ℕ) : Type 0 where
+  pub row-fourteen : (r ≡ 14) ↔ (Whole jobs → ⊥)
+  pub judges : (l : JobList) → BytesOfList jobs l → (a : Admission) → VerdictPromise l model a → r ≡ toldAdmission a .number
 
--- what the two entries return
-abbrev pub admitNumber : List ℕ → ℕ → ℕ
-admitNumber jobs model = admitTold jobs model .number
+abbrev pub AdmitEntryAnswers : Type 0
+AdmitEntryAnswers = (jobs : List ℕ) (model r : ℕ) → AdmitEntryPromise jobs model r → AdmitEntryTold jobs model r
 
-abbrev pub fillNumber : List ℕ → Setting → List ℕ → ℕ → ℕ → ℕ
-fillNumber jobs setting bytes offset n = fillTold jobs setting (length bytes) offset n .number
+-- a fresh run starts: rows 15 and 1 to 6 are not given
+pub record Starts (l : JobList) (s : Setting) : Type 0 where
+  pub allowed : Allowed s
+  pub sound : SoundList l
+
+-- 'another starts a fresh run, writes n choices at an offset as above': the choices are those of a run of the list
+pub record FillsRun (l : JobList) (s : Setting) (before : List ℕ) (offset n : ℕ) (after : List ℕ) : Type 0 where
+  pub slots : List Slot
+  pub state : State
+  pub long : length slots ≡ n
+  pub run : Run l s slots state
+  pub choices : take n (drop offset after) ≡ bytesOf slots
+  pub stays : Stays before after offset n
+
+-- `filbertoss_fill` of the bytes of a list: 'Tests 14, 15, then the rows above; for the fill 12, then 11, come after 6.'
+pub record FillTold (l : JobList) (s : Setting) (before : List ℕ) (offset n r : ℕ) (after : List ℕ) : Type 0 where
+  pub row-fifteen : (r ≡ 15) ↔ (Allowed s → ⊥)
+  -- rows 1 to 6, as `JobList::check` gives them
+  pub list-rows : Allowed s → (c : Checked) → ListCheckPromise l c → (c ≡ Passed → ⊥) → r ≡ toldChecked c .number
+  -- '12 (offset + n above the length), 11 (clock + n above its limit)', from slot 0
+  pub row-twelve : (r ≡ 12) ↔ (Starts l s × (length before < offset + n))
+  pub row-eleven : (r ≡ 11) ↔ (Starts l s × (offset + n ≤ length before) × (clockMost < n))
+  pub passes : (r ≡ 0) ↔ (Starts l s × (offset + n ≤ length before) × (n ≤ clockMost))
+  pub runs : r ≡ 0 → FillsRun l s before offset n after
+  -- 'A refused .. timetable writes nothing'
+  pub keeps : (r ≡ 0 → ⊥) → after ≡ before
+
+abbrev pub FillAnswers : Type 0
+FillAnswers =
+    (jobs : List ℕ) (l : JobList) → BytesOfList jobs l → (order model : ℕ) (before : List ℕ) (offset n r : ℕ) (after : List ℕ)
+    → FillEntryPromise jobs order model before offset n r after
+    → FillTold l (record { order = order; model = model }) before offset n r after
 
 -- '14: job bytes not a multiple of 6'
-abbrev pub AdmitRowFourteen : Type 0
-AdmitRowFourteen = (jobs : List ℕ) (model : ℕ) → (admitNumber jobs model ≡ 14) ↔ (Whole jobs → ⊥)
-
 abbrev pub FillRowFourteen : Type 0
 FillRowFourteen =
-    (jobs : List ℕ) (setting : Setting) (bytes : List ℕ) (offset n : ℕ)
-    → (fillNumber jobs setting bytes offset n ≡ 14) ↔ (Whole jobs → ⊥)
-
--- otherwise admission answers as it does on the list that the bytes hold
-abbrev pub AdmitJudges : Type 0
-AdmitJudges = (jobs : List ℕ) (model : ℕ) → Whole jobs → admitTold jobs model ≡ verdictTold (listFrom jobs) model
-
--- and a fill answers as the start does, where that refuses
-abbrev pub FillStarts : Type 0
-FillStarts =
-    (jobs : List ℕ) (setting : Setting) (len offset n : ℕ) → Whole jobs
-    → eqb (startTold (listFrom jobs) setting .number) 0 ≡ false
-    → fillTold jobs setting len offset n ≡ startTold (listFrom jobs) setting
-
--- or as the writer does on the state that was started, which also leaves the bytes
-pub record WritesOn (jobs : List ℕ) (setting : Setting) (bytes : List ℕ) (offset n : ℕ) : Type 0 where
-  pub told-is :
-      fillTold jobs setting (length bytes) offset n
-      ≡ writeTold (startState (listFrom jobs) setting) (length bytes) offset n
-  pub bytes-are :
-      fillBytes jobs setting bytes offset n ≡ writeBytes (startState (listFrom jobs) setting) bytes offset n
-
-abbrev pub FillWrites : Type 0
-FillWrites =
-    (jobs : List ℕ) (setting : Setting) (bytes : List ℕ) (offset n : ℕ) → Whole jobs
-    → startTold (listFrom jobs) setting ≡ passed → WritesOn jobs setting bytes offset n
-
--- 'A refused .. timetable writes nothing'
-abbrev pub FillKeeps : Type 0
-FillKeeps =
-    (jobs : List ℕ) (setting : Setting) (bytes : List ℕ) (offset n : ℕ)
-    → (fillNumber jobs setting bytes offset n ≡ 0 → ⊥) → fillBytes jobs setting bytes offset n ≡ bytes
-
--- '15: order or model number not 0 or 1'
-abbrev pub FillRowFifteen : Type 0
-FillRowFifteen =
-    (jobs : List ℕ) (setting : Setting) (bytes : List ℕ) (offset n : ℕ)
-    → (fillNumber jobs setting bytes offset n ≡ 15) ↔ (Whole jobs × (settingAllowed setting ≡ false))
-
--- rows 1 to 6, as in the check of a list
-abbrev pub FillListRows : Type 0
-FillListRows =
-    (jobs : List ℕ) (setting : Setting) (bytes : List ℕ) (offset n r : ℕ) → 1 ≤ r → r ≤ 6
-    → (fillNumber jobs setting bytes offset n ≡ r)
-    ↔ (Whole jobs × (settingAllowed setting ≡ true) × (listTold (listFrom jobs) .number ≡ r))
-
--- a fresh run starts: rows 14, 15 and 1 to 6 are not given
-pub record Starts (jobs : List ℕ) (setting : Setting) : Type 0 where
-  pub whole : Whole jobs
-  pub allowed : settingAllowed setting ≡ true
-  pub sound : SoundList (listFrom jobs)
-
--- '12 (offset + n above the length), 11 (clock + n above its limit)', from slot 0
-abbrev pub FillRowTwelve : Type 0
-FillRowTwelve =
-    (jobs : List ℕ) (setting : Setting) (bytes : List ℕ) (offset n : ℕ)
-    → (fillNumber jobs setting bytes offset n ≡ 12) ↔ (Starts jobs setting × (length bytes < offset + n))
-
-abbrev pub FillRowEleven : Type 0
-FillRowEleven =
-    (jobs : List ℕ) (setting : Setting) (bytes : List ℕ) (offset n : ℕ)
-    → (fillNumber jobs setting bytes offset n ≡ 11)
-    ↔ (Starts jobs setting × (offset + n ≤ length bytes) × (clockMost < n))
-
-abbrev pub FillPasses : Type 0
-FillPasses =
-    (jobs : List ℕ) (setting : Setting) (bytes : List ℕ) (offset n : ℕ)
-    → (fillNumber jobs setting bytes offset n ≡ 0)
-    ↔ (Starts jobs setting × (offset + n ≤ length bytes) × (n ≤ clockMost))
-
--- '10: a state out of its ranges' is no answer of a fill: its state is fresh
-abbrev pub FillNeverTen : Type 0
-FillNeverTen =
-    (jobs : List ℕ) (setting : Setting) (bytes : List ℕ) (offset n : ℕ) → fillNumber jobs setting bytes offset n ≡ 10 → ⊥
+    (jobs : List ℕ) (order model : ℕ) (before : List ℕ) (offset n r : ℕ) (after : List ℕ)
+    → FillEntryPromise jobs order model before offset n r after
+    → ((r ≡ 14) ↔ (Whole jobs → ⊥)) × (r ≡ 14 → after ≡ before)

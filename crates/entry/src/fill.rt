@@ -1,7 +1,5 @@
 // A fresh run of job bytes, written into the caller's buffer.
-ghost use mathlib.Core.Path.{_≡_};
-ghost use lib.ListN.{length};
-ghost use Rattle.entry.specs.Entry.{fillTold, fillBytes};
+ghost use Rattle.entry.specs.Promise.{FillEntryPromise};
 use crate::jobs::list_from;
 use job::Refusal;
 use place::Setting;
@@ -16,8 +14,7 @@ pub extern "C" fn filbertoss_fill(
     offset: usize,
     n: usize,
 ) -> u32
-    ensures { λ r. ⌜ r ≡ fillTold (now (jobs .entry)) (record { order = order; model = model }) (length (now (buf .entry))) offset n .number ⌝ }
-    ensures { λ r. ⌜ now (buf .exit) ≡ fillBytes (now (jobs .entry)) (record { order = order; model = model }) (now (buf .entry)) offset n ⌝ }
+    ensures { λ r. ⌜ FillEntryPromise (now (jobs .entry)) order model (now (buf .entry)) offset n r (now (buf .exit)) ⌝ }
 {
     if jobs.len() % 6 != 0 {
         return Refusal::JobBytes.number();

@@ -5,3 +5,4 @@ pub mod WalkLaws
 pub mod FilledLaws
 pub mod CheckLaws
 pub mod Meaning
+pub mod AlikeLaws

@@ -1,4 +1,4 @@
--- The statements of specs/Meaning about the check of a list.
+-- The check of a job and of a list by what it means; from these laws, the statements of specs/Meaning.
 use mathlib.Core.Path.{_≡_, refl, sym, _∙_, ap, subst}
 use mathlib.Core.Bool.{Bool, true, false}
 use mathlib.Core.Logic.{_↔_}
@@ -7,19 +7,42 @@ use Prim.Native.Nat.{ℕ, zero, suc, _+_, _≤_, _<_}
 use native.Mathlib.Numerals.{add-one}
 use native.Mathlib.Omega.{arith}
 use lib.Dec.{eqb, ltb}
-use lib.ListN.{getD}
+use lib.ListN.{getD, getD-replicate}
 use borrow.Author.Count.{below-more}
 use borrow.Author.Tests.{eqb-true, ltb-true, eqb-false, ltb-false, eq-eqb, ne-eqb, lt-ltb}
 use Rattle.job.specs.declared.record.Job.{Job}
 use Rattle.job.specs.declared.list.JobList.{JobList}
 use Rattle.job.specs.Limit.{countMost, tMost, kMost}
 use Rattle.job.specs.Told.{Told, row, passed}
-use Rattle.job.specs.Check.{allowed, jobAt, jobTold, jobsTold, listTold}
+use Rattle.job.specs.Check.{noJob, allowed, jobAt, jobTold, jobsTold, listTold}
 use Rattle.job.specs.Sound.{SoundJob, SoundBelow, SoundList, FaultOf, t-fault, c-fault, k-fault, m-fault, LowestFault}
-use Rattle.job.specs.Meaning.{PassesExactly, RowOneExactly, RowTwoExactly, JobRowsExactly}
+use Rattle.job.specs.Meaning.{RefusalNumbered, CheckedNumbered, Zeros, NoneZeros, NonePut, EmptyNonePut, JobRows, JobChecks, ListRows, ListChecks}
 use Rattle.job.proofs.ToldLaws.{apart, valued}
 use Rattle.job.proofs.TestLaws.{clash, allowed-within, within-allowed, not-allowed, not-within}
 use Rattle.job.proofs.CheckLaws.{no-job-told, one-more, stays, by-count, by-jobs}
+
+-- the numbers
+pub refusal-numbered : RefusalNumbered
+refusal-numbered refusal r e = e
+
+pub checked-numbered : CheckedNumbered
+checked-numbered checked r e = e
+
+-- no job
+no-job-zeros : Zeros noJob
+no-job-zeros = record { c = refl; t = refl; m = refl; k = refl }
+
+pub none-zeros : NoneZeros
+none-zeros r e = subst Zeros (sym e) no-job-zeros
+
+pub empty-none-put : EmptyNonePut
+empty-none-put n r e =
+    subst (NonePut n) (sym e)
+    (record {
+      count = refl;
+      long = refl;
+      zeros = λ i past less. subst Zeros (sym (getD-replicate countMost i noJob past less)) no-job-zeros;
+    })
 
 -- one job
 sound-passes : (i : ℕ) (j : Job) → SoundJob j → jobTold i j ≡ passed
@@ -81,6 +104,22 @@ job-passes-exactly i j = (go (job-view j), λ s. ap passes (sound-passes i j s))
     go : JobView j → passes (jobTold i j) ≡ true → SoundJob j
     go (sound-job s) e = s
     go (faulty-job n fault) e = absurd (clash (ap passes (fault-names i j n fault) ∙ fault-refuses j n fault) e)
+
+pub one-job-passes-exactly : (i : ℕ) (j : Job) → (jobTold i j ≡ passed) ↔ SoundJob j
+one-job-passes-exactly i j =
+    (λ e. job-passes-exactly i j .0 (ap (λ (t : Told). eqb (t .number) 0) e), sound-passes i j)
+
+pub one-job-row-exactly : (i n : ℕ) (j : Job) → (jobTold i j ≡ row n (i ∷ [])) ↔ FaultOf j n
+one-job-row-exactly i n j = (go (job-view j), fault-names i j n)
+  where
+    go : JobView j → jobTold i j ≡ row n (i ∷ []) → FaultOf j n
+    go (sound-job s) e = absurd (valued (sym e ∙ sound-passes i j s))
+    go (faulty-job n′ fault) e = subst (FaultOf j) (ap (λ (t : Told). t .number) (sym (fault-names i j n′ fault) ∙ e)) fault
+
+pub job-checks : JobChecks
+job-checks at j r e =
+    subst (JobRows at j) (sym e)
+    (record { passes = one-job-passes-exactly at j; job-row = λ n. one-job-row-exactly at n j })
 
 -- the first n jobs
 jobs-sound : (jobs : List Job) (n : ℕ) → SoundBelow jobs n → jobsTold jobs n ≡ passed
@@ -148,7 +187,7 @@ list-view l = go (eqb (l .count) 0) (ltb countMost (l .count)) refl refl (jobs-v
         faulty-list r i
         (record { count = record { low = positive e; high = ltb-false countMost (l .count) f }; listed = h; below = below; fault = fault })
 
-pub passes-exactly : PassesExactly
+pub passes-exactly : (l : JobList) → (listTold l ≡ passed) ↔ SoundList l
 passes-exactly l = (go (list-view l), list-sound l)
   where
     go : ListView l → listTold l ≡ passed → SoundList l
@@ -158,7 +197,7 @@ passes-exactly l = (go (list-view l), list-sound l)
     go (faulty-list n i f) e =
         absurd (apart (sym (list-fault l n i f) ∙ e) (fault-refuses (jobAt (l .jobs) i) n (f .fault)))
 
-pub row-one-exactly : RowOneExactly
+pub row-one-exactly : (l : JobList) → (listTold l ≡ row 1 []) ↔ (l .count ≡ 0)
 row-one-exactly l = (go (list-view l), list-none l)
   where
     go : ListView l → listTold l ≡ row 1 [] → l .count ≡ 0
@@ -167,7 +206,7 @@ row-one-exactly l = (go (list-view l), list-none l)
     go (sound-list s) e = absurd (apart (sym (list-sound l s) ∙ e) refl)
     go (faulty-list n i f) e = absurd (valued (sym (list-fault l n i f) ∙ e))
 
-pub row-two-exactly : RowTwoExactly
+pub row-two-exactly : (l : JobList) → (listTold l ≡ row 2 []) ↔ (countMost < l .count)
 row-two-exactly l = (go (list-view l), list-many l)
   where
     go : ListView l → listTold l ≡ row 2 [] → countMost < l .count
@@ -176,7 +215,7 @@ row-two-exactly l = (go (list-view l), list-many l)
     go (sound-list s) e = absurd (apart (sym (list-sound l s) ∙ e) refl)
     go (faulty-list n i f) e = absurd (valued (sym (list-fault l n i f) ∙ e))
 
-pub job-rows-exactly : JobRowsExactly
+pub job-rows-exactly : (l : JobList) (n i : ℕ) → (listTold l ≡ row n (i ∷ [])) ↔ LowestFault l n i
 job-rows-exactly l n i = (go (list-view l), list-fault l n i)
   where
     go : ListView l → listTold l ≡ row n (i ∷ []) → LowestFault l n i
@@ -188,3 +227,13 @@ job-rows-exactly l n i = (go (list-view l), list-fault l n i)
         let i-same : i′ ≡ i = ap (λ (t : Told). getD (t .values) 0 0) same in
         subst (λ (x : ℕ). LowestFault l n x) i-same
         (subst (λ (x : ℕ). LowestFault l x i′) (ap (λ (t : Told). t .number) same) f)
+
+pub list-checks : ListChecks
+list-checks l r e =
+    subst (ListRows l) (sym e)
+    (record {
+      passes = passes-exactly l;
+      row-one = row-one-exactly l;
+      row-two = row-two-exactly l;
+      job-rows = job-rows-exactly l;
+    })

@@ -1,10 +1,12 @@
--- A list within the table 'Quantity, Allowed', as facts, and what it means that a job's row is at fault.
+-- A list within the table 'Quantity, Allowed', as facts, and what it means that a job's row is at fault: in the table's limits and the
+-- library's words, with none of the tests of Check.
 use Prim.Native.Nat.{ℕ, _≤_, _<_}
 use mathlib.Core.List.{List}
+use lib.ListN.{getD}
 use Rattle.job.specs.declared.record.Job.{Job}
 use Rattle.job.specs.declared.list.JobList.{JobList}
 use Rattle.job.specs.Limit.{countMost, tMost, kMost}
-use Rattle.job.specs.Check.{jobAt}
+use Rattle.job.specs.Check.{noJob}
 
 -- 'x: 1 to most'
 pub record Within (x most : ℕ) : Type 0 where
@@ -19,7 +21,7 @@ pub record SoundJob (j : Job) : Type 0 where
 
 -- every job before number n is sound
 abbrev pub SoundBelow : List Job → ℕ → Type 0
-SoundBelow jobs n = (i : ℕ) → i < n → SoundJob (jobAt jobs i)
+SoundBelow jobs n = (i : ℕ) → i < n → SoundJob (getD jobs i noJob)
 
 pub record SoundList (l : JobList) : Type 0 where
   pub count : Within (l .count) countMost
@@ -37,4 +39,4 @@ pub record LowestFault (l : JobList) (n i : ℕ) : Type 0 where
   pub count : Within (l .count) countMost
   pub listed : i < l .count
   pub below : SoundBelow (l .jobs) i
-  pub fault : FaultOf (jobAt (l .jobs) i) n
+  pub fault : FaultOf (getD (l .jobs) i noJob) n

@@ -1,8 +1,5 @@
 // A list of jobs by value: 16 records and a count. Records at and past the count are never read.
-ghost use mathlib.Core.Path.{_≡_};
-ghost use Rattle.job.specs.Check.{listTold};
-ghost use Rattle.job.specs.Filled.{emptyList};
-ghost use Rattle.job.specs.Told.{toldChecked};
+ghost use Rattle.job.specs.Promise.{EmptyPromise, ListCheckPromise};
 use crate::record::Job;
 use crate::refusal::Checked;
 use crate::refusal::Refusal;
@@ -18,7 +15,7 @@ impl JobList {
 
     // A list of `count` jobs before any of them is put.
     pub fn empty(count: usize) -> JobList
-        ensures { λ r. ⌜ r ≡ emptyList count ⌝ }
+        ensures { λ r. ⌜ EmptyPromise count r ⌝ }
     {
         JobList {
             jobs: [Job::none(); 16],
@@ -28,7 +25,7 @@ impl JobList {
 
     // Rows 1, 2, then 3 to 6 for the lowest job at fault.
     pub fn check(self) -> Checked
-        ensures { λ r. ⌜ toldChecked r ≡ listTold self ⌝ }
+        ensures { λ r. ⌜ ListCheckPromise self r ⌝ }
     {
         let count = self.count;
         if count == 0 {

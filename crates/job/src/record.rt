@@ -1,7 +1,7 @@
 // One job: C slots for an instance, T slots in a period, m instances in every k periods.
 ghost use mathlib.Core.Path.{_≡_};
-ghost use Rattle.job.specs.Check.{noJob, allowed, jobTold};
-ghost use Rattle.job.specs.Told.{toldChecked};
+ghost use Rattle.job.specs.Check.{allowed};
+ghost use Rattle.job.specs.Promise.{NonePromise, JobCheckPromise};
 use crate::refusal::Checked;
 use crate::refusal::Refusal;
 
@@ -28,7 +28,7 @@ impl Job {
 
     // What stands where no job is: all zeros.
     pub fn none() -> Job
-        ensures { λ r. ⌜ r ≡ noJob ⌝ }
+        ensures { λ r. ⌜ NonePromise r ⌝ }
     {
         Job {
             c: 0,
@@ -40,7 +40,7 @@ impl Job {
 
     // The job at number `at` of a list, by rows 3 to 6: T before C before k before m.
     pub fn check(self, at: usize) -> Checked
-        ensures { λ r. ⌜ toldChecked r ≡ jobTold at self ⌝ }
+        ensures { λ r. ⌜ JobCheckPromise at self r ⌝ }
     {
         if !within(self.t, Job::T_MOST) {
             return Checked::Refused(Refusal::Period { job: at });

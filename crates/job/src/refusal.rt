@@ -1,6 +1,5 @@
 // The numbered refusals of document 01, every row once, with the values that the row names.
-ghost use mathlib.Core.Path.{_≡_};
-ghost use Rattle.job.specs.Told.{told, toldChecked};
+ghost use Rattle.job.specs.Promise.{CheckedNumberPromise, RefusalNumberPromise};
 
 pub enum Refusal {
     // 1
@@ -48,7 +47,7 @@ pub enum Checked {
 impl Checked {
     // 0, or the row's number.
     pub fn number(self) -> u32
-        ensures { λ r. ⌜ r ≡ toldChecked self .number ⌝ }
+        ensures { λ r. ⌜ CheckedNumberPromise self r ⌝ }
     {
         match self {
             Checked::Passed => 0,
@@ -60,7 +59,7 @@ impl Checked {
 impl Refusal {
     // The row's number.
     pub fn number(self) -> u32
-        ensures { λ r. ⌜ r ≡ told self .number ⌝ }
+        ensures { λ r. ⌜ RefusalNumberPromise self r ⌝ }
     {
         match self {
             Refusal::NoJobs => 1,

@@ -16,12 +16,12 @@ use Rattle.admission.specs.Answer.{cycleReturned, loadReturned}
 use Rattle.text.specs.Ascii.{ascii}
 use Rattle.text.specs.Decimal.{decimalOf}
 use Rattle.text.proofs.PrintLaws.{decimal-most}
-use Rattle.lines.specs.Parts.{labelled, Fills}
+use Rattle.lines.specs.Parts.{labelled}
+use Rattle.lines.specs.Promise.{LinePromise}
 use Rattle.lines.specs.Slot.{choiceText, setText, slotText}
 use Rattle.lines.specs.Summary.{verdictWord, admissionText, totalsText}
 use Rattle.lines.specs.Refused.{valueText, refusalText}
 use Rattle.lines.proofs.SetLaws.{set-most}
-use Rattle.text.specs.Written.{written}
 use Rattle.text.proofs.WrittenLaws.{Ends, from-start, written-length}
 
 pub choice-most : (choice : Choice) → length (choiceText choice) ≤ 20
@@ -102,9 +102,8 @@ refusal-fits t = simp length-append (omega (arith, decimal-most (t .number), val
 
 -- a whole line, from the buffer's start on
 pub whole-line :
-    {b₀ x b : List ℕ} {r : ℕ} → length b₀ ≡ 192 → length x ≤ 192 → Ends b₀ 0 x b r
-    → (r ≡ length x) × ((b ≡ written b₀ 0 x) × Fills r b)
+    {b₀ x b : List ℕ} {r : ℕ} → length b₀ ≡ 192 → length x ≤ 192 → Ends b₀ 0 x b r → LinePromise x b₀ r b
 whole-line {b₀} {x} {b} {r} long fits e =
     let from = from-start e in
     let kept : length b ≡ 192 = ap length (from .1) ∙ written-length b₀ 0 x (omega arith) ∙ long in
-    (from .0, (from .1, (omega (arith, from .0), sym (length-take-le r b (omega (arith, from .0))), omega (arith, from .0))))
+    (from .0, from .1, (omega (arith, from .0), sym (length-take-le r b (omega (arith, from .0))), omega (arith, from .0)))

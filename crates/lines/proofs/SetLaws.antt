@@ -10,7 +10,7 @@ use native.Mathlib.Omega.{arith}
 use lib.Dec.{eqb}
 use lib.ListN.{length, length-append}
 use borrow.Author.Tests.{eq-eqb, ne-eqb}
-use Rattle.run.specs.History.{member}
+use Rattle.run.specs.Answer.{member}
 use Rattle.text.specs.Decimal.{decimalOf}
 use Rattle.text.specs.Written.{written}
 use Rattle.text.proofs.DecimalLaws.{decimal-one, decimal-length}

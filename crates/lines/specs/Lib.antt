@@ -4,4 +4,5 @@ pub mod Slot
 pub mod Summary
 pub mod Refused
 pub mod Answer
+pub mod Promise
 pub mod Meaning

@@ -1,18 +1,24 @@
 -- What a reader may check of the lines against document 01: the lines that it quotes, and that every line fits the buffer. Each
 -- statement is proved in proofs/, under its name.
 use mathlib.Core.Path.{_≡_}
-use mathlib.Core.List.{[], _∷_}
+use mathlib.Core.List.{List, [], _∷_}
 use Prim.Native.Nat.{ℕ, _≤_}
-use lib.ListN.{length}
+use lib.ListN.{length, take, drop}
+use Rattle.job.specs.declared.refusal.Refusal.{Refusal}
 use Rattle.job.specs.declared.refusal.Refusal.the-variants.{Period, OriginalModel, CycleTooLong, SheetForm}
 use Rattle.job.specs.Told.{Told, row, told}
+use Rattle.admission.specs.declared.answer.Admission.{Admission}
+use Rattle.admission.specs.Answer.{toldAdmission}
 use Rattle.run.specs.declared.answer.Choice.the-variants.{Given}
+use Rattle.run.specs.declared.answer.StepAnswer.{StepAnswer}
 use Rattle.run.specs.declared.answer.Slot.{Slot}
 use Rattle.run.specs.declared.state.Totals.{Totals}
 use Rattle.text.specs.Ascii.{ascii}
 use Rattle.lines.specs.Slot.{slotText}
 use Rattle.lines.specs.Summary.{admissionText, totalsText}
 use Rattle.lines.specs.Refused.{refusalText}
+use Rattle.lines.specs.Answer.{answerText}
+use Rattle.lines.specs.Promise.{SlotLinePromise, RefusalLinePromise, AnswerLinePromise, AdmissionLinePromise, TotalsLinePromise}
 
 -- 'slot 1 of case F: "1 0 t1 s1"'
 abbrev pub SlotOneOfF : Type 0
@@ -49,3 +55,27 @@ EveryLineFits =
     × ((t : Told) → length (admissionText t) ≤ 192)
     × ((t : Totals) → length (totalsText t) ≤ 192)
     × ((t : Told) → length (refusalText t) ≤ 192)
+
+-- a line in its buffer: the text at the start, and the other bytes as they were
+pub record Line (text before : List ℕ) (r : ℕ) (after : List ℕ) : Type 0 where
+  pub long : r ≡ length text
+  pub text-is : take r after ≡ text
+  pub stays : drop r after ≡ drop r before
+
+-- whatever the promises of the five functions allow is the line of their text
+pub record LinesWritten : Type 0 where
+  pub slot :
+      (number : ℕ) (slot : Slot) (before : List ℕ) (r : ℕ) (after : List ℕ) → length before ≡ 192
+      → SlotLinePromise number slot before r after → Line (slotText number slot) before r after
+  pub refusal :
+      (refusal : Refusal) (before : List ℕ) (r : ℕ) (after : List ℕ) → length before ≡ 192
+      → RefusalLinePromise refusal before r after → Line (refusalText (told refusal)) before r after
+  pub answer :
+      (number : ℕ) (answer : StepAnswer) (before : List ℕ) (r : ℕ) (after : List ℕ) → length before ≡ 192
+      → AnswerLinePromise number answer before r after → Line (answerText number answer) before r after
+  pub admission :
+      (answer : Admission) (before : List ℕ) (r : ℕ) (after : List ℕ) → length before ≡ 192
+      → AdmissionLinePromise answer before r after → Line (admissionText (toldAdmission answer)) before r after
+  pub totals :
+      (totals : Totals) (before : List ℕ) (r : ℕ) (after : List ℕ) → length before ≡ 192
+      → TotalsLinePromise totals before r after → Line (totalsText totals) before r after

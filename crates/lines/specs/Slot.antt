@@ -6,7 +6,7 @@ use mathlib.Core.List.{List, [], _++_}
 use Rattle.run.specs.declared.answer.Choice.{Choice}
 use Rattle.run.specs.declared.answer.Choice.the-variants.{Given, Idle}
 use Rattle.run.specs.declared.answer.Slot.{Slot}
-use Rattle.run.specs.History.{member}
+use Rattle.run.specs.Answer.{member}
 use Rattle.text.specs.Ascii.{ascii}
 use Rattle.text.specs.Decimal.{decimalOf}
 use Rattle.lines.specs.Parts.{labelled}

@@ -4,8 +4,8 @@ ghost use Prim.Native.Nat.{_+_, _≤_};
 ghost use lib.ListN.{length};
 ghost use Rattle.job.specs.Told.{told};
 ghost use Rattle.text.specs.Written.{written};
-ghost use Rattle.lines.specs.Parts.{Fills};
-ghost use Rattle.lines.specs.Refused.{valueText, refusalText};
+ghost use Rattle.lines.specs.Promise.{RefusalLinePromise};
+ghost use Rattle.lines.specs.Refused.{valueText};
 use crate::parts::put_labelled;
 use job::Refusal;
 use text::inner::put_text;
@@ -27,9 +27,7 @@ fn put_value(buf: &mut [u8], at: usize, refusal: Refusal) -> usize
 }
 
 pub fn refusal_line(buf: &mut [u8; 192], refusal: Refusal) -> usize
-    ensures { λ r. ⌜ r ≡ length (refusalText (told refusal)) ⌝ }
-    ensures { λ r. ⌜ now (buf .exit) ≡ written (now (buf .entry)) 0 (refusalText (told refusal)) ⌝ }
-    ensures { λ r. ⌜ Fills r (now (buf .exit)) ⌝ }
+    ensures { λ r. ⌜ RefusalLinePromise refusal (now (buf .entry)) r (now (buf .exit)) ⌝ }
 {
     let mut at = put_labelled(buf, 0, b"refused ", refusal.number() as u64);
     at = put_value(buf, at, refusal);

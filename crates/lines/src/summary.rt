@@ -3,9 +3,8 @@ ghost use mathlib.Core.Path.{_≡_};
 ghost use Prim.Native.Nat.{_+_, _≤_};
 ghost use lib.ListN.{length};
 ghost use Rattle.text.specs.Written.{written};
-ghost use Rattle.admission.specs.Answer.{toldAdmission};
-ghost use Rattle.lines.specs.Parts.{Fills};
-ghost use Rattle.lines.specs.Summary.{verdictWord, admissionText, totalsText};
+ghost use Rattle.lines.specs.Promise.{AdmissionLinePromise, TotalsLinePromise};
+ghost use Rattle.lines.specs.Summary.{verdictWord};
 use crate::parts::put_labelled;
 use admission::Admission;
 use run::Totals;
@@ -26,9 +25,7 @@ fn put_word(buf: &mut [u8], at: usize, number: u32) -> usize
 }
 
 pub fn admission_line(buf: &mut [u8; 192], answer: Admission) -> usize
-    ensures { λ r. ⌜ r ≡ length (admissionText (toldAdmission answer)) ⌝ }
-    ensures { λ r. ⌜ now (buf .exit) ≡ written (now (buf .entry)) 0 (admissionText (toldAdmission answer)) ⌝ }
-    ensures { λ r. ⌜ Fills r (now (buf .exit)) ⌝ }
+    ensures { λ r. ⌜ AdmissionLinePromise answer (now (buf .entry)) r (now (buf .exit)) ⌝ }
 {
     let mut at = put_labelled(buf, 0, b"cycle ", answer.cycle());
     at = put_labelled(buf, at, b" load ", answer.load());
@@ -37,9 +34,7 @@ pub fn admission_line(buf: &mut [u8; 192], answer: Admission) -> usize
 
 // 'Last line: totals.'
 pub fn totals_line(buf: &mut [u8; 192], totals: Totals) -> usize
-    ensures { λ r. ⌜ r ≡ length (totalsText totals) ⌝ }
-    ensures { λ r. ⌜ now (buf .exit) ≡ written (now (buf .entry)) 0 (totalsText totals) ⌝ }
-    ensures { λ r. ⌜ Fills r (now (buf .exit)) ⌝ }
+    ensures { λ r. ⌜ TotalsLinePromise totals (now (buf .entry)) r (now (buf .exit)) ⌝ }
 {
     let mut at = put_labelled(buf, 0, b"given ", totals.given as u64);
     at = put_labelled(buf, at, b" idle ", totals.idle as u64);

@@ -1,24 +1,23 @@
 -- The comparison of distances is a strict weak order where the denominators are positive, and nobody is farther than any.
-use mathlib.Core.Path.{_≡_, refl, sym, ap, _∙_}
-use mathlib.Core.Bool.{true, false}
-use Prim.Native.Nat.{ℕ, zero, suc, _+_, _*_, _<_}
-use native.Mathlib.Nat.{le-refl, le-antisymm, add-zero, zero-add, zero-mul, mul-le-mul-right, mul-lt-mul-of-pos-right, lt-of-mul-lt-mul-right}
+use mathlib.Core.Path.{_≡_, refl, sym, _∙_}
+use mathlib.Core.Bool.{Bool, true, false, cond}
+use Prim.Native.Nat.{ℕ, zero, suc, _+_, _-_, _*_, _<_}
+use native.Mathlib.Nat.{le-refl, add-zero, zero-add, zero-mul, mul-le-mul-right, mul-lt-mul-of-pos-right, lt-of-mul-lt-mul-right}
 use native.Mathlib.Omega.{arith}
 use lib.Dec.{ltb, leb·suc-suc}
-use lib.IntN.{ℤ, pos, negsuc, negℤ, _*ℤ_}
+use lib.IntN.{ℤ, pos, negsuc, negℤ, _-ℤ_, _*ℤ_}
 use lib.Signed.{ltZ}
 use borrow.Author.Tests.{ltb-true, ltb-false, lt-ltb, le-ltb}
 use Rattle.place.specs.declared.inner.choice.Held.{Held}
 use Rattle.place.specs.Choice.{nearerOf, nobody}
-use Rattle.job.proofs.TestLaws.{clash}
 
 -- an integer as the difference of two naturals
 
-abbrev plus : ℤ → ℕ
+abbrev pub plus : ℤ → ℕ
 plus (pos n) = n
 plus (negsuc n) = 0
 
-abbrev minus : ℤ → ℕ
+abbrev pub minus : ℤ → ℕ
 minus (pos n) = 0
 minus (negsuc n) = suc n
 
@@ -44,23 +43,31 @@ ltZ-is (pos a) (negsuc b) = sym (le-ltb (a + suc b) 0 (omega arith))
 ltZ-is (negsuc a) (pos b) = sym (lt-ltb 0 (b + suc a) (omega arith))
 ltZ-is (negsuc a) (negsuc b) = rw (zero-add (suc a), zero-add (suc b)) (sym (leb·suc-suc (suc b) a))
 
-ltZ-self : (x : ℤ) → ltZ x x ≡ false
-ltZ-self (pos a) = le-ltb a a (le-refl a)
-ltZ-self (negsuc a) = le-ltb a a (le-refl a)
+-- the two parts of a difference
+pub difference-parts : (a b : ℕ) → plus (pos a -ℤ pos b) + b ≡ a + minus (pos a -ℤ pos b)
+difference-parts a zero = omega arith
+difference-parts a (suc b) = go (ltb a (suc b)) refl
+  where
+    go :
+        (t : Bool) → ltb a (suc b) ≡ t
+        → plus (cond t (negsuc (suc b - suc a)) (pos (a - suc b))) + suc b ≡ a + minus (cond t (negsuc (suc b - suc a)) (pos (a - suc b)))
+    go true e = let h = ltb-true a (suc b) e in omega arith
+    go false e = let h = ltb-false a (suc b) e in omega arith
 
--- neither is less
-ltZ-neither : (x y : ℤ) → ltZ x y ≡ false → ltZ y x ≡ false → x ≡ y
-ltZ-neither (pos a) (pos b) e f = ap pos (le-antisymm (ltb-false b a f) (ltb-false a b e))
-ltZ-neither (pos a) (negsuc b) e f = absurd (clash f refl)
-ltZ-neither (negsuc a) (pos b) e f = absurd (clash e refl)
-ltZ-neither (negsuc a) (negsuc b) e f = ap negsuc (le-antisymm (ltb-false b a e) (ltb-false a b f))
+-- two comparisons of numbers that lie equally far apart
+pub ltb-shift : (x y u v c d : ℕ) → x + c ≡ u + d → y + c ≡ v + d → ltb x y ≡ ltb u v
+ltb-shift x y u v c d e f = go (ltb u v) refl
+  where
+    go : (b : Bool) → ltb u v ≡ b → ltb x y ≡ b
+    go true g = lt-ltb x y (let h = ltb-true u v g in omega arith)
+    go false g = le-ltb x y (let h = ltb-false u v g in omega arith)
 
 -- the two sides of a comparison, as naturals: a is nearer than b exactly if `side a b` is less than `side b a`
 
-abbrev side : Held → Held → ℕ
+abbrev pub side : Held → Held → ℕ
 side a b = plus (a .num) * b .den + minus (b .num) * a .den
 
-nearer-is : (a b : Held) → nearerOf a b ≡ ltb (side a b) (side b a)
+pub nearer-is : (a b : Held) → nearerOf a b ≡ ltb (side a b) (side b a)
 unfolding nearerOf
 nearer-is a b =
     ltZ-is (a .num *ℤ pos (b .den)) (b .num *ℤ pos (a .den))
@@ -82,17 +89,8 @@ module _ (a b : Held) where
       (lt-of-mul-lt-mul-right (b .den)
       (omega (arith, mul-lt-mul-of-pos-right h some, mul-le-mul-right (a .den) k)))
 
-  -- neither is nearer: they are equal
-  pub neither-nearer : nearerOf a b ≡ false → nearerOf b a ≡ false → a .num *ℤ pos (b .den) ≡ b .num *ℤ pos (a .den)
-  unfolding nearerOf
-  neither-nearer = ltZ-neither (a .num *ℤ pos (b .den)) (b .num *ℤ pos (a .den))
-
-  pub same-nearer : a .num *ℤ pos (b .den) ≡ b .num *ℤ pos (a .den) → nearerOf a b ≡ false
-  unfolding nearerOf
-  same-nearer e = rw e (ltZ-self (b .num *ℤ pos (a .den)))
-
 pub nearer-self : (a : Held) → nearerOf a a ≡ false
-nearer-self a = same-nearer a a refl
+nearer-self a = nearer-is a a ∙ le-ltb (side a a) (side a a) (le-refl (side a a))
 
 pub nobody-farther : (a : Held) → 0 < a .den → nearerOf a nobody ≡ true
 nobody-farther a some = nearer-is a nobody ∙ lt-ltb (side a nobody) (side nobody a) (omega arith)

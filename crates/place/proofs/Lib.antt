@@ -5,3 +5,4 @@ pub mod BoundLaws
 pub mod CaseLaws
 pub mod PlaceLaws
 pub mod DistanceLaws
+pub mod Meaning

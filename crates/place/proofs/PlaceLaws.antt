@@ -129,9 +129,6 @@ opened-sound model job =
 -- a place stays sound
 
 module _ {setting : Setting} {q : Place} (sound : SoundPlace setting q) where
-  pub owed-positive : eligibleOf setting q ≡ true → 0 < owedOf setting q
-  owed-positive = eligible-owed setting q
-
   served-sound : eligibleOf setting q ≡ true → SoundPlace setting (servedOf setting q)
   unfolding servedOf
   served-sound eligible =
@@ -265,7 +262,7 @@ unfolding movedOf
 moved-job setting q chosen =
     turned-job (workedOf setting q chosen (overdueOf setting q)) ∙ worked-job setting q chosen (overdueOf setting q)
 
--- a slot's service moves no clock, and a tag serves nothing
+-- a slot's service moves no clock
 
 served-ends : (setting : Setting) (q : Place) → windowEnds (servedOf setting q) ≡ windowEnds q
 unfolding servedOf windowEnds
@@ -277,11 +274,3 @@ unfolding workedOf windowEnds
 worked-ends setting q true late = served-ends setting q
 worked-ends setting q false true = refl
 worked-ends setting q false false = refl
-
-pub worked-owed :
-    (setting : Setting) (q : Place) (chosen late : Bool)
-    → owedOf setting (workedOf setting q chosen late) ≡ owedOf setting (workedOf setting q chosen false)
-unfolding workedOf owedOf finishedOf
-worked-owed setting q true late = refl
-worked-owed setting q false true = refl
-worked-owed setting q false false = refl

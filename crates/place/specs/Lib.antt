@@ -4,3 +4,5 @@ pub mod Opening
 pub mod Place
 pub mod Choice
 pub mod Sound
+pub mod Promise
+pub mod Meaning

@@ -1,10 +1,15 @@
--- The ranges of a place as facts: what `inner` asks for, and what the laws use.
+-- What is allowed of a setting, and the ranges of a place, as facts: what `inner` asks for, and what the laws use.
 use Prim.Native.Nat.{_*_, _≤_, _<_}
 use mathlib.Core.Path.{_≡_}
 use Rattle.job.specs.Limit.{relaxed, original}
 use Rattle.job.specs.Sound.{Within, SoundJob}
 use Rattle.place.specs.declared.setting.Setting.{Setting}
 use Rattle.place.specs.declared.record.Place.{Place}
+
+-- '15: order or model number not 0 or 1'
+pub record Allowed (s : Setting) : Type 0 where
+  pub order : s .order ≤ 1
+  pub model : s .model ≤ 1
 
 pub record RelaxedService (q : Place) : Type 0 where
   pub u-m : q .at .u ≤ q .job .m * q .job .c

@@ -1,6 +1,5 @@
 // A job in a run, and how far its window has come.
-ghost use mathlib.Core.Path.{_≡_};
-ghost use Rattle.place.specs.Opening.{blank, opened};
+ghost use Rattle.place.specs.Promise.{BlankPromise, OpenedPromise};
 use job::Job;
 
 // e slots gone in the period, which is the window's p-th; the service so far: u slots of this
@@ -22,7 +21,7 @@ pub struct Place {
 impl Place {
     // A place of no job.
     pub fn blank() -> Place
-        ensures { λ r. ⌜ r ≡ blank ⌝ }
+        ensures { λ r. ⌜ BlankPromise r ⌝ }
     {
         Place {
             job: Job::none(),
@@ -39,7 +38,7 @@ impl Place {
 
     // A job at the opening of its window.
     pub fn opened(job: Job) -> Place
-        ensures { λ r. ⌜ r ≡ opened job ⌝ }
+        ensures { λ r. ⌜ OpenedPromise job r ⌝ }
     {
         Place {
             job,

@@ -1,7 +1,6 @@
 // How a run is run: its order and its service model, as numbers, so that a state of any content
 // can be handed in and refused.
-ghost use mathlib.Core.Path.{_≡_};
-ghost use Rattle.place.specs.Setting.{settingAllowed};
+ghost use Rattle.place.specs.Promise.{AllowedPromise};
 use job::Job;
 
 pub struct Setting {
@@ -17,7 +16,7 @@ impl Setting {
 
     // Row 15.
     pub fn allowed(self) -> bool
-        ensures { λ r. ⌜ r ≡ settingAllowed self ⌝ }
+        ensures { λ r. ⌜ AllowedPromise self r ⌝ }
     {
         (self.order <= Setting::W) & (self.model <= Job::ORIGINAL)
     }

@@ -1,5 +1,5 @@
 -- What is known of an admitted list: it is sound, its cycle holds its load, and no window of its run misses anything.
-use mathlib.Core.Path.{_≡_, refl}
+use mathlib.Core.Path.{_≡_, refl, sym, subst}
 use mathlib.Core.Logic.{_↔_}
 use Prim.Native.Nat.{ℕ, _≤_, _<_}
 use native.Mathlib.Omega.{arith}
@@ -10,10 +10,11 @@ use Rattle.job.specs.Sound.{SoundList}
 use Rattle.admission.specs.Cycle.{cycleOf}
 use Rattle.admission.specs.Load.{loadOf}
 use Rattle.admission.proofs.Meaning.{admitted-exactly}
-use Rattle.admission.proofs.CycleLaws.{cycle-common, cycle-positive}
+use Rattle.admission.proofs.CycleLaws.{cycle-common, cycle-positive, cycle-multiple, cycle-is}
+use Rattle.admission.proofs.LoadLaws.{load-is, load-exact}
 use Rattle.run.specs.State.{clockMost}
 use Rattle.run.specs.Choice.{chosenOf}
-use Rattle.run.specs.Meaning.{at}
+use Rattle.run.proofs.ChoiceLaws.{at}
 use Rattle.promises.specs.DemandThree.{Admits}
 use Rattle.promises.proofs.WorkLaws.{missedOf}
 use Rattle.promises.proofs.OnTimeLaws.{runOf, run-none-missed}
@@ -29,19 +30,29 @@ admits-exactly l = (to, from)
   where
     to : Admits l → Holds l
     to a =
-        let facts = admitted-exactly l relaxed (a .0) (a .1) .0 (a .2) in
+        let facts = admitted-exactly l relaxed (a .0) (a .1) .0 (sym (a .2)) in
+        let cycle : a .0 ≡ cycleOf l = cycle-is l (facts .0 .sound) (facts .0 .cycle) in
         record {
           sound = facts .0 .sound;
-          short = facts .0 .cycle-short;
-          loaded = omega (arith, facts .0 .cycle, facts .0 .load, facts .1);
+          short = omega (arith, facts .0 .cycle-short);
+          loaded = subst (λ (h : ℕ). loadOf l h ≤ h) cycle (omega (arith, load-is (facts .0 .load), facts .1));
         }
 
     from : Holds l → Admits l
     from h = (
       cycleOf l,
       loadOf l (cycleOf l),
-      admitted-exactly l relaxed (cycleOf l) (loadOf l (cycleOf l)) .1
-          (record { model-relaxed = refl; sound = h .sound; cycle-short = h .short; cycle = refl; load = refl }, h .loaded),
+      sym
+          (admitted-exactly l relaxed (cycleOf l) (loadOf l (cycleOf l)) .1 (
+            record {
+              model-relaxed = refl;
+              sound = h .sound;
+              cycle = cycle-multiple l (h .sound);
+              cycle-short = h .short;
+              load = load-exact l (cycle-common l);
+            },
+            h .loaded,
+          )),
     )
 
 pub admitted-none-missed :

@@ -10,10 +10,10 @@ use Rattle.place.specs.Place.{windowLeft, finishedOf, owedOf, eligibleOf, numer
 use Rattle.place.specs.Choice.{distanceOf, nearerOf, betterOf}
 use Rattle.run.specs.Choice.{heldUpto, chosenOf}
 use Rattle.run.specs.Slot.{choiceOf, placesUpto, maskUpto, countUpto, allMoved, turnOf}
-use Rattle.run.specs.Step.{startTold, startState}
-use Rattle.run.specs.Run.{afterSlots}
+use Rattle.run.specs.Range.{jobPasses, serviceInRange, progressInRange, placeBlank, placeInRange, placesInRange, totalsInRange, stateInRange}
+use Rattle.run.specs.Step.{startTold, startState, stepTold, stepState}
 use Rattle.promises.specs.Cases.{answersOf, CasesHold}
 
 pub cases-hold : CasesHold
-unfolding jobTold otherwise jobsTold listTold gcdIn gcd lcm cycleUpto loadUpto judgedTold verdictTold filledUpto windowLeft finishedOf owedOf eligibleOf numeratorOf overdueOf firstTagged servedOf workedOf windowEnds shortOf turnedOf movedOf distanceOf nearerOf betterOf heldUpto chosenOf choiceOf placesUpto maskUpto countUpto allMoved turnOf startTold startState afterSlots answersOf
+unfolding jobTold otherwise jobsTold listTold gcdIn gcd lcm cycleUpto loadUpto judgedTold verdictTold filledUpto windowLeft finishedOf owedOf eligibleOf numeratorOf overdueOf firstTagged servedOf workedOf windowEnds shortOf turnedOf movedOf distanceOf nearerOf betterOf heldUpto chosenOf choiceOf placesUpto maskUpto countUpto allMoved turnOf jobPasses serviceInRange progressInRange placeBlank placeInRange placesInRange totalsInRange stateInRange startTold startState stepTold stepState answersOf
 cases-hold = refl

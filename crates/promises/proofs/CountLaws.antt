@@ -9,9 +9,13 @@ use lib.Dec.{eqb, ltb}
 use lib.ListN.{length, take, drop}
 use lib.Seq.{take-add}
 use borrow.Author.Tests.{ltb-true, ltb-false, eqb-true, eqb-false, lt-ltb, le-ltb}
-use Rattle.run.specs.Bytes.{countIn, slotsOf, givenIn}
-use Rattle.run.proofs.BytesLaws.{countIn-append, countIn-high}
-use Rattle.promises.proofs.SumLaws.{sumUpto}
+use Rattle.rules.specs.Rules.{countIn, slotsOf}
+use Rattle.rules.proofs.BytesLaws.{countIn-append, countIn-high}
+use Rattle.rules.specs.Meaning.{sumUpto}
+
+-- how many bytes name a job below n
+abbrev givenIn : ℕ → List ℕ → ℕ
+givenIn n bytes = countIn (λ b. ltb b n) bytes
 
 -- the bytes below n + 1 are those below n, and n itself
 given-next : (n : ℕ) (bytes : List ℕ) → givenIn (suc n) bytes ≡ givenIn n bytes + slotsOf n bytes

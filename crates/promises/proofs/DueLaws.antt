@@ -18,13 +18,13 @@ use Rattle.run.specs.declared.state.State.{State}
 use Rattle.run.specs.Choice.{chosenOf}
 use Rattle.run.specs.Slot.{turnOf}
 use Rattle.run.specs.Sound.{SoundState}
-use Rattle.run.specs.Meaning.{at, IsEligible}
 use Rattle.job.proofs.TestLaws.{clash}
 use Rattle.place.proofs.PlaceLaws.{moved-job}
-use Rattle.run.proofs.ChoiceLaws.{ChoiceView, none-chosen, one-chosen, choice-view, given-exactly, window-order}
+use Rattle.run.proofs.ChoiceLaws.{at, IsEligible, ChoiceView, none-chosen, one-chosen, choice-view, given-exactly, window-order}
 use Rattle.run.proofs.KeepLaws.{turn-place}
 use Rattle.run.proofs.TurnLaws.{turn-count}
-use Rattle.promises.proofs.SumLaws.{sumUpto, sum-same, sum-most, sum-less, sum-bound, sum-none}
+use Rattle.rules.specs.Meaning.{sumUpto}
+use Rattle.promises.proofs.SumLaws.{sum-same, sum-most, sum-less, sum-bound, sum-none}
 use Rattle.promises.proofs.AmountLaws.{by-share}
 use Rattle.promises.proofs.WindowLaws.{leftOf}
 use Rattle.promises.proofs.WorkLaws.{serviceOf, dueOf, missedOf, leavesOf, keeps, far, idles, spends}

@@ -6,9 +6,10 @@ pub mod WorkLaws
 pub mod DueLaws
 pub mod OnTimeLaws
 pub mod AdmittedLaws
-pub mod NeverShort
 pub mod CountLaws
 pub mod TimetableLaws
 pub mod Timetable
+pub mod NeverShort
+pub mod Buffers
 pub mod Cases
 pub mod Unique

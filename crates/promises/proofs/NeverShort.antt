@@ -1,111 +1,100 @@
--- Demand 3, the second half: an admitted list run in window order from slot 0 has no short window up to the clock's limit.
-use mathlib.Core.Path.{_≡_, refl, ap, _∙_}
+-- Demand 3, the second half: an admitted list run in window order from slot 0 has no short window. Its runs are full, and a full window is
+-- not short by the rules.
+use mathlib.Core.Path.{_≡_, refl, sym, ap, ap₂, _∙_}
 use mathlib.Core.Logic.{_≢_}
-use mathlib.Core.Bool.{true}
-use Prim.Native.Nat.{ℕ, zero, suc, _/_, _%_, _^_, _≤_, _<_}
-use native.Mathlib.Nat.{pow-succ', div-one, div-div-eq-div-mul}
+use mathlib.Core.Bool.{Bool, true, false, _&&_}
+use mathlib.Core.List.{List}
+use Prim.Native.Nat.{ℕ, zero, suc, _+_, _-_, _*_, _/_, _%_, _^_, _≤_, _<_}
+use native.Mathlib.Nat.{pow-succ', div-one, div-div-eq-div-mul, div-add-mod', le-div-iff-mul-le, mul-pos, lt-of-mul-lt-mul-right}
 use native.Mathlib.Omega.{arith}
-use lib.Arith.{bin-ind}
-use lib.Dec.{eqb}
-use borrow.Author.Tests.{eq-eqb}
+use lib.Arith.{bin-ind, digits-mod}
+use lib.Dec.{eqb, ltb}
+use lib.ListN.{length, getD, take, drop}
+use borrow.Author.Tests.{eqb-true, le-ltb}
+use Rattle.job.specs.declared.record.Job.{Job}
 use Rattle.job.specs.declared.list.JobList.{JobList}
-use Rattle.job.specs.Told.{row}
-use Rattle.job.proofs.Meaning.{passes-exactly}
-use Rattle.run.specs.declared.state.State.{State}
-use Rattle.run.specs.State.{clockMost, freshOf}
-use Rattle.run.specs.Choice.{chosenOf}
-use Rattle.run.specs.Slot.{countUpto, turnOf}
-use Rattle.run.specs.Sound.{SoundState}
-use Rattle.run.specs.Answer.{toldSlot}
-use Rattle.run.specs.Step.{startState, stepTold, stepState}
-use Rattle.run.specs.Run.{afterSlots}
-use Rattle.run.specs.History.{member, sizeOf}
-use Rattle.run.specs.Meaning.{EndsShort}
-use Rattle.run.proofs.StartLaws.{start-checks, state-passed}
-use Rattle.run.proofs.AnswerLaws.{StepView, out-of-range, at-limit, goes-on, step-view}
-use Rattle.run.proofs.SetLaws.{shorts-exactly}
-use Rattle.run.proofs.TurnLaws.{turn-shorts}
-use Rattle.run.proofs.RunLaws.{after-clock, after-count}
-use Rattle.promises.specs.DemandThree.{windowOrder, stepped, NeverShort}
-use Rattle.promises.proofs.WorkLaws.{short-missed}
-use Rattle.promises.proofs.OnTimeLaws.{runOf, run-model, run-sound}
-use Rattle.promises.proofs.AdmittedLaws.{Holds, admits-exactly, admitted-none-missed}
+use Rattle.job.specs.Sound.{SoundJob}
+use Rattle.job.proofs.TestLaws.{clash}
+use Rattle.run.specs.Calls.{bytesOf}
+use Rattle.run.specs.SlotMeaning.{howMany}
+use Rattle.rules.specs.Rules.{slotsOf, windowStart, sinceWindow, finished, jobOf, endsShort}
+use Rattle.rules.specs.Meaning.{noSlot, RunTold}
+use Rattle.rules.proofs.Meaning.{run-follows}
+use Rattle.promises.specs.Lawful.{Full}
+use Rattle.promises.specs.DemandThree.{windowOrder, NeverShort}
+use Rattle.promises.proofs.SumLaws.{sum-zero}
+use Rattle.promises.proofs.OnTimeLaws.{window-allowed}
+use Rattle.promises.proofs.AdmittedLaws.{Holds, admits-exactly}
+use Rattle.promises.proofs.TimetableLaws.{part-of-front}
+use Rattle.promises.proofs.Timetable.{runs-lawful}
 
--- a set with no member is 0, and has no size
-empty-set : (mask : ℕ) → ((i : ℕ) → member mask i ≡ true → ⊥) → mask ≡ 0
+-- a set with no member is 0
+empty-set : (mask : ℕ) → ((i : ℕ) → mask / 2 ^ i % 2 ≡ 1 → ⊥) → mask ≡ 0
 empty-set =
-    bin-ind (λ (mask : ℕ). ((i : ℕ) → member mask i ≡ true → ⊥) → mask ≡ 0) (λ none. refl)
+    bin-ind (λ (mask : ℕ). ((i : ℕ) → mask / 2 ^ i % 2 ≡ 1 → ⊥) → mask ≡ 0) (λ none. refl)
     (λ mask half none.
     let rest : mask / 2 ≡ 0 =
     half (λ i. rw (div-div-eq-div-mul mask 2 (2 ^ i), ← pow-succ' 2 i) (none (suc i))) in
-    let low : mask % 2 ≢ 1 = λ odd. none 0 (rw (div-one mask) (eq-eqb (mask % 2) 1 odd)) in
+    let low : mask % 2 ≢ 1 = λ odd. none 0 (rw (div-one mask) odd) in
     omega arith)
 
-empty-size : sizeOf 0 ≡ 0
-unfolding countUpto
-empty-size = refl
+-- and a count of none is 0
+none-counted : (f : ℕ → Bool) (n : ℕ) → ((i : ℕ) → i < n → f i ≡ false) → howMany f n ≡ 0
+unfolding howMany
+none-counted f zero none = refl
+none-counted f (suc n) none = rw (none n (omega arith)) (none-counted f n (λ i h. none i (omega arith)))
 
--- while the clock is below its limit, a step of a sound state is its slot
-module _ (s : State) (sound : SoundState s) (below : s .clock < clockMost) where
-  step-done : stepTold s ≡ row 0 (toldSlot (turnOf s .slot))
-  step-done = go (step-view s)
+-- a window that ends in a full timetable is not short
+module _ (l : JobList) (bytes : List ℕ) (full : Full l bytes) (i : ℕ) (listed : i < l .count) (sound : SoundJob (jobOf l i)) where
+  abbrev job : Job
+  job = jobOf l i
+
+  abbrev window : ℕ
+  window = job .k * job .t
+
+  full-window :
+      (n : ℕ) → n < length bytes → (n + 1) % window ≡ 0 → job .m * job .c ≤ slotsOf i (sinceWindow job n (take (n + 1) bytes))
+  full-window n inside closes =
+      let some : 0 < window = mul-pos (sound .k .low) (sound .t .low) in
+      let w : ℕ = (n + 1) / window - 1 in
+      let whole : (n + 1) / window * window ≡ n + 1 = omega (arith, div-add-mod' (n + 1) window) in
+      let more : 0 < (n + 1) / window = lt-of-mul-lt-mul-right window (omega arith) in
+      let one-less : w + 1 ≡ (n + 1) / window = omega arith in
+      let last : w * window + window ≡ n + 1 = omega (arith, ap (_* window) one-less) in
+      let place : w * window + (window - 1) ≡ n = omega arith in
+      let rest : n % window ≡ window - 1 = ap (_% window) (sym place) ∙ digits-mod w (omega arith) in
+      let start : windowStart job n ≡ w * window = omega arith in
+      let seen : take window (drop (w * window) bytes) ≡ sinceWindow job n (take (n + 1) bytes) =
+      part-of-front (w * window) window bytes (omega arith)
+      ∙ ap₂ (λ (from upto : ℕ). drop from (take upto bytes)) (sym start) last in
+      rw (← seen) (full i listed w (omega arith))
+
+  not-short : (n : ℕ) → n < length bytes → endsShort l windowOrder bytes n i ≡ false
+  unfolding endsShort finished
+  not-short n inside = go (eqb ((n + 1) % window) 0) refl
     where
-      go : StepView s → stepTold s ≡ row 0 (toldSlot (turnOf s .slot))
-      go (out-of-range broken e) = absurd (broken sound)
-      go (at-limit good last e) = absurd (omega arith)
-      go (goes-on good open-still e) = e
+      had : ℕ
+      had = slotsOf i (sinceWindow job n (take (n + 1) bytes))
 
-  step-slot : stepState s ≡ turnOf s .state
-  unfolding stepState
-  step-slot = rw step-done
-
-module _ (l : JobList) (holds : Holds l) where
-  sound : (n : ℕ) → n ≤ clockMost → SoundState (runOf l n)
-  sound = run-sound l (holds .sound)
-
-  below-limit : (n : ℕ) → n < clockMost → runOf l n .clock < clockMost
-  below-limit n h = omega (arith, after-clock (freshOf l windowOrder) n)
-
-  started : startState l windowOrder ≡ freshOf l windowOrder
-  started = state-passed l windowOrder (start-checks l windowOrder refl ∙ passes-exactly l .1 (holds .sound))
-
-  steps : (n : ℕ) → n ≤ clockMost → stepped (startState l windowOrder) n ≡ runOf l n
-  unfolding stepped afterSlots
-  steps zero high = started
-  steps (suc n) high =
-      ap stepState (steps n (omega arith)) ∙ step-slot (runOf l n) (sound n (omega arith)) (below-limit n high)
-
-  never-ends-short : (n : ℕ) → n ≤ clockMost → (i : ℕ) → EndsShort (runOf l n) i → ⊥
-  never-ends-short n high i short =
-      let listed : i < l .count = rw (after-count (freshOf l windowOrder) n) at (short .listed) in
-      omega (
-        arith,
-        short-missed (sound n high .places i (short .listed)) (run-model l n) (eqb i (chosenOf (runOf l n)))
-            (short .ends) (short .lacking),
-        admitted-none-missed l holds n high i listed,
-      )
-
-  none-short : (n : ℕ) → n ≤ clockMost → turnOf (runOf l n) .slot .shorts ≡ 0
-  none-short n high =
-      empty-set (turnOf (runOf l n) .slot .shorts)
-      (λ i short. never-ends-short n high i (shorts-exactly (runOf l n) (sound n high) i .0 short))
-
-  total : (n : ℕ) → n ≤ clockMost → runOf l n .totals .shorts ≡ 0
-  unfolding afterSlots
-  total zero high = refl
-  total (suc n) high =
-      let none : sizeOf (turnOf (runOf l n) .slot .shorts) ≡ 0 = ap sizeOf (none-short n (omega arith)) ∙ empty-size in
-      omega (arith, turn-shorts (runOf l n) (sound n (omega arith)), total n (omega arith))
+      go : (b : Bool) → eqb ((n + 1) % window) 0 ≡ b → (b && ltb 0 (job .m - had / job .c)) ≡ false
+      go false e = refl
+      go true e =
+          let done : job .m ≤ had / job .c =
+          le-div-iff-mul-le (sound .c .low) .1 (full-window n inside (eqb-true ((n + 1) % window) 0 e)) in
+          le-ltb 0 (job .m - had / job .c) (omega arith)
 
 pub never-short : NeverShort
-never-short l admits n =
-    let holds : Holds l = admits-exactly l .0 admits in (
-      λ h.
-          rw (steps l holds n (omega arith))
-          (record {
-            slot = turnOf (runOf l n) .slot;
-            done = step-done (runOf l n) (sound l holds n (omega arith)) (below-limit l holds n h);
-            none = none-short l holds n (omega arith);
-          }),
-      λ h. rw (steps l holds n h) (total l holds n h),
+never-short l admits slots state run =
+    let holds : Holds l = admits-exactly l .0 admits in
+    let told : RunTold l windowOrder slots state = run-follows l windowOrder (holds .sound) window-allowed slots state run in
+    let none : (n : ℕ) → n < length slots → (i : ℕ) → i < l .count → endsShort l windowOrder (bytesOf slots) n i ≡ false =
+    λ n h i listed.
+    not-short l (bytesOf slots) (runs-lawful l admits slots state run .2) i listed (holds .sound .jobs i listed) n (omega (arith, told .long)) in (
+      λ n h.
+          empty-set (getD slots n noSlot .shorts)
+          (λ i bit.
+          let short = told .slots-are n h .shorts i .0 bit in
+          clash (none n h i (short .0)) (short .1)),
+      told .state-is .shorts-is
+          ∙ sum-zero _ (length (bytesOf slots)) (λ n h. none-counted _ (l .count) (none n (omega (arith, told .long)))),
     )

@@ -12,21 +12,23 @@ use Rattle.job.specs.Check.{jobAt}
 use Rattle.job.specs.Sound.{SoundList}
 use Rattle.job.specs.Window.{windowOf}
 use Rattle.admission.specs.Load.{shareOf, loadUpto, loadOf}
-use Rattle.admission.specs.Meaning.{CommonMultiple}
+use Rattle.admission.specs.Judged.{CommonMultiple}
 use Rattle.place.specs.declared.setting.Setting.{Setting}
 use Rattle.place.specs.declared.record.Place.{Place}
 use Rattle.place.specs.Setting.{orderW}
+use Rattle.place.specs.Sound.{Allowed}
 use Rattle.place.specs.Opening.{opened}
 use Rattle.run.specs.declared.state.State.{State}
 use Rattle.run.specs.State.{clockMost, freshOf}
 use Rattle.run.specs.Choice.{chosenOf}
 use Rattle.run.specs.Sound.{SoundState}
 use Rattle.run.specs.Run.{afterSlots}
-use Rattle.run.specs.Meaning.{at}
+use Rattle.run.proofs.ChoiceLaws.{at}
 use Rattle.promises.specs.DemandThree.{windowOrder}
 use Rattle.run.proofs.FreshLaws.{fresh-at, fresh-sound}
 use Rattle.run.proofs.RunLaws.{after-setting, after-count, after-sound}
-use Rattle.promises.proofs.SumLaws.{sumUpto, sum-same, sum-bound}
+use Rattle.rules.specs.Meaning.{sumUpto}
+use Rattle.promises.proofs.SumLaws.{sum-same, sum-bound}
 use Rattle.promises.proofs.AmountLaws.{by-share}
 use Rattle.promises.proofs.WorkLaws.{serviceOf, dueOf, missedOf, due-opened}
 use Rattle.promises.proofs.DueLaws.{loadIn, OnTime, on-time-next, none-missed}
@@ -74,6 +76,10 @@ module _ (l : JobList) (setting : Setting) (sound : SoundList l) where
               sum-bound (λ i. dueOf (at started i) D) (λ i. shareOf (at started i .job) N) N D (l .count) (fresh-due D);
         }
 
+-- window order is allowed
+pub window-allowed : Allowed windowOrder
+window-allowed = record { order = omega arith; model = omega arith }
+
 -- the run: its state after n slots
 abbrev pub runOf : JobList → ℕ → State
 runOf l n = afterSlots (freshOf l windowOrder) n
@@ -90,7 +96,7 @@ module _ (l : JobList) where
 
   module _ (sound : SoundList l) where
     pub run-sound : (n : ℕ) → n ≤ clockMost → SoundState (runOf l n)
-    run-sound n high = after-sound (freshOf l windowOrder) (fresh-sound l windowOrder sound refl) n (omega arith)
+    run-sound n high = after-sound (freshOf l windowOrder) (fresh-sound l windowOrder sound window-allowed) n (omega arith)
 
     module _ (N : ℕ) (common : CommonMultiple l N) (fits : loadOf l N ≤ N) where
       run-on-time : (n : ℕ) → n ≤ clockMost → OnTime N (runOf l n)

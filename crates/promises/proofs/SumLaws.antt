@@ -5,10 +5,7 @@ use native.Mathlib.Numerals.{add-one}
 use native.Mathlib.Decide.{ℕ-discrete}
 use native.Mathlib.Omega.{arith}
 use borrow.Author.Count.{below-none, below-more}
-
-unfoldable pub sumUpto : (ℕ → ℕ) → ℕ → ℕ
-sumUpto f zero = 0
-sumUpto f (suc n) = sumUpto f n + f n
+use Rattle.rules.specs.Meaning.{sumUpto}
 
 module _ {f g : ℕ → ℕ} where
   pub sum-same : (n : ℕ) → ((i : ℕ) → i < n → f i ≡ g i) → sumUpto f n ≡ sumUpto g n
@@ -47,3 +44,8 @@ module _ (f : ℕ → ℕ) where
   sum-none zero none = below-none _
   sum-none (suc n) none =
       rw (← add-one n) (below-more (λ (i : ℕ). f i ≡ 0) n (sum-none n (omega arith)) (omega arith))
+
+  pub sum-zero : (n : ℕ) → ((i : ℕ) → i < n → f i ≡ 0) → sumUpto f n ≡ 0
+  unfolding sumUpto
+  sum-zero zero none = refl
+  sum-zero (suc n) none = omega (arith, sum-zero n (λ i h. none i (omega arith)), none n (omega arith))

@@ -1,6 +1,7 @@
--- Demand 3, the first half: a list is admitted exactly if some lawful, full timetable of one cycle exists.
-use mathlib.Core.Path.{_≡_, refl, sym, ap, ap₂, _∙_}
-use mathlib.Core.Logic.{_↔_}
+-- Demand 3, the first half: a run of an admitted list in window order is lawful and full; so a list is admitted exactly if some lawful,
+-- full timetable of one cycle exists.
+use mathlib.Core.Path.{_≡_, refl, sym, ap, ap₂, subst, _∙_}
+use mathlib.Core.Logic.{_↔_, _⊎_, inl, inr}
 use mathlib.Core.List.{List}
 use Prim.Native.Nat.{ℕ, _+_, _-_, _*_, _/_, _%_, _≤_, _<_}
 use native.Mathlib.Nat.{mul-comm, div-mul-cancel}
@@ -10,28 +11,32 @@ use lib.ListN.{length, take, drop}
 use lib.Seq.{take-all}
 use Rattle.job.specs.declared.record.Job.{Job}
 use Rattle.job.specs.declared.list.JobList.{JobList}
+use Rattle.job.specs.Limit.{relaxed}
 use Rattle.job.specs.Check.{jobAt}
 use Rattle.job.specs.Window.{windowOf}
 use Rattle.admission.specs.declared.answer.Admission.the-variants.{Admitted}
 use Rattle.admission.specs.Answer.{toldAdmission}
 use Rattle.admission.specs.Cycle.{cycleOf}
 use Rattle.admission.specs.Load.{shareOf, loadOf}
-use Rattle.admission.specs.Meaning.{CommonMultiple}
-use Rattle.admission.proofs.CycleLaws.{window-positive, cycle-common}
+use Rattle.admission.specs.Judged.{CommonMultiple}
+use Rattle.admission.proofs.CycleLaws.{window-positive, multiple-unique, cycle-is}
+use Rattle.admission.proofs.Meaning.{admitted-exactly}
 use Rattle.admission.proofs.AnswerLaws.{admission-one-to-one}
 use Rattle.run.specs.State.{clockMost, freshOf}
-use Rattle.run.specs.Bytes.{slotsOf}
-use Rattle.run.specs.History.{sinceWindow}
-use Rattle.run.proofs.FreshLaws.{fresh-sound}
-use Rattle.run.proofs.RunLaws.{choices-long, choice-byte}
+use Rattle.run.specs.Calls.{bytesOf}
+use Rattle.run.proofs.RunLaws.{choices-long, choices-take}
+use Rattle.run.proofs.CallLaws.{run-slots}
+use Rattle.rules.specs.Rules.{idleByte, slotsOf, sinceWindow, Chooses, picked, idled}
+use Rattle.rules.specs.Meaning.{RunTold}
+use Rattle.rules.proofs.Meaning.{run-short, run-follows, run-exists}
 use Rattle.promises.specs.Lawful.{Timetable, Lawful, Full}
-use Rattle.promises.specs.DemandThree.{Admits, CycleTimetable, windowOrder, AdmittedExactlyIfTimetable, AnswerExactlyIfTimetable}
+use Rattle.promises.specs.DemandThree.{Admits, CycleTimetable, windowOrder, AdmittedExactlyIfTimetable, AnswerExactlyIfTimetable, RunsLawful}
 use Rattle.promises.proofs.SumLaws.{sum-most}
 use Rattle.promises.proofs.CountLaws.{slots-high, windows-served}
 use Rattle.promises.proofs.WorkLaws.{serviceOf}
-use Rattle.promises.proofs.OnTimeLaws.{load-sum}
+use Rattle.promises.proofs.OnTimeLaws.{load-sum, window-allowed}
 use Rattle.promises.proofs.AdmittedLaws.{Holds, admits-exactly}
-use Rattle.promises.proofs.TimetableLaws.{bytesOf, choices-first, part-of-front, slots-most, slots-full}
+use Rattle.promises.proofs.TimetableLaws.{runBytes, part-of-front, slots-most, slots-full}
 
 -- a full timetable of N slots, whole windows of every job, has room for the load of N slots
 module _ (l : JobList) (N : ℕ) (common : CommonMultiple l N) (bytes : List ℕ) (long : length bytes ≡ N) (full : Full l bytes) where
@@ -49,27 +54,18 @@ module _ (l : JobList) (N : ℕ) (common : CommonMultiple l N) (bytes : List ℕ
   full-holds =
       omega (arith, load-sum (l .jobs) N (l .count), sum-most (l .count) share-served, slots-high (l .count) bytes)
 
--- the run of an admitted list in window order is a lawful and full timetable, however long
+-- the choices of an admitted list in window order, however many, are lawful and full
 module _ (l : JobList) (holds : Holds l) (slots : ℕ) (high : slots ≤ clockMost) where
-  inside-run : {n : ℕ} → n < length (bytesOf l slots) → n < slots
+  inside-run : {n : ℕ} → n < length (runBytes l slots) → n < slots
   inside-run h = rw (choices-long (freshOf l windowOrder) slots) at h
 
-  pub run-names : Timetable l slots (bytesOf l slots)
-  run-names =
-      record {
-        long = choices-long (freshOf l windowOrder) slots;
-        named =
-            λ n h.
-            choice-byte (freshOf l windowOrder) (fresh-sound l windowOrder (holds .sound) refl) slots n (omega arith) h;
-      }
-
-  pub run-lawful : Lawful l (bytesOf l slots)
-  run-lawful i listed n inside =
-      rw (choices-first (freshOf l windowOrder) (n + 1) slots (omega (arith, inside-run inside)))
+  choices-lawful : Lawful l (runBytes l slots)
+  choices-lawful i listed n inside =
+      rw (choices-take (freshOf l windowOrder) (n + 1) slots (omega (arith, inside-run inside)))
       (slots-most l (holds .sound) i listed n (omega (arith, inside-run inside)))
 
-  pub run-full : Full l (bytesOf l slots)
-  run-full i listed w inside =
+  choices-full : Full l (runBytes l slots)
+  choices-full i listed w inside =
       let j : Job = jobAt (l .jobs) i in
       let start : ℕ = w * windowOf j in
       let last : ℕ = start + (windowOf j - 1) in
@@ -78,36 +74,61 @@ module _ (l : JobList) (holds : Holds l) (slots : ℕ) (high : slots ≤ clockMo
       let rest : last % windowOf j ≡ windowOf j - 1 = digits-mod w (omega arith) in
       let opens : last - last % windowOf j ≡ start = omega arith in
       let next : last + 1 ≡ start + windowOf j = omega arith in
-      let seen : take (windowOf j) (drop start (bytesOf l slots)) ≡ sinceWindow j last (bytesOf l (last + 1)) =
-      part-of-front start (windowOf j) (bytesOf l slots) (omega arith)
-      ∙ ap (drop start) (choices-first (freshOf l windowOrder) (start + windowOf j) slots fits)
-      ∙ ap₂ (λ (from upto : ℕ). drop from (bytesOf l upto)) (sym opens) (sym next) in
+      let seen : take (windowOf j) (drop start (runBytes l slots)) ≡ sinceWindow j last (runBytes l (last + 1)) =
+      part-of-front start (windowOf j) (runBytes l slots) (omega arith)
+      ∙ ap (drop start) (choices-take (freshOf l windowOrder) (start + windowOf j) slots fits)
+      ∙ ap₂ (λ (from upto : ℕ). drop from (runBytes l upto)) (sym opens) (sym next) in
       rw seen (slots-full l (holds .sound) i listed last (omega arith) holds (omega arith))
 
+-- so is a run, which has these choices
+pub runs-lawful : RunsLawful
+runs-lawful l admits slots state run =
+    let holds : Holds l = admits-exactly l .0 admits in
+    let told : RunTold l windowOrder slots state = run-follows l windowOrder (holds .sound) window-allowed slots state run in
+    let short : length slots ≤ clockMost = run-short l windowOrder (holds .sound) window-allowed slots state run in
+    let same : runBytes l (length slots) ≡ bytesOf slots = sym (run-slots run .bytes-are) in (
+      record { long = told .long; named = λ n h. named (told .follows n (omega (arith, told .long))) },
+      subst (Lawful l) same (choices-lawful l holds (length slots) short),
+      subst (Full l) same (choices-full l holds (length slots) short),
+    )
+  where
+    named :
+        {n b : ℕ} {seen : List ℕ} → Chooses l windowOrder n seen b → (b < l .count) ⊎ (b ≡ idleByte)
+    named (picked j p) = inl (p .listed)
+    named (idled none) = inr refl
+
 pub admitted-exactly-if-timetable : AdmittedExactlyIfTimetable
-admitted-exactly-if-timetable l sound short = (
+admitted-exactly-if-timetable l h sound cycle short = (
   λ admits.
       let holds : Holds l = admits-exactly l .0 admits in
+      let one = run-exists l windowOrder (holds .sound) window-allowed h (omega arith) in
+      let table = runs-lawful l admits (one .slots) (one .state) (one .run) in
       record {
-        bytes = bytesOf l (cycleOf l);
-        names = run-names l holds (cycleOf l) (omega arith);
-        lawful = run-lawful l holds (cycleOf l) (omega arith);
-        full = run-full l holds (cycleOf l) (omega arith);
+        bytes = bytesOf (one .slots);
+        names = subst (λ (n : ℕ). Timetable l n (bytesOf (one .slots))) (one .long) (table .0);
+        lawful = table .1;
+        full = table .2;
       },
   λ t.
+      let same : h ≡ cycleOf l = cycle-is l sound cycle in
       admits-exactly l .1
       (record {
         sound = sound;
-        short = short;
-        loaded = full-holds l (cycleOf l) (cycle-common l) (t .bytes) (t .names .long) (t .full);
+        short = omega arith;
+        loaded =
+            subst (λ (n : ℕ). loadOf l n ≤ n) same
+            (full-holds l h (cycle .common) (t .bytes) (t .names .long) (t .full));
       }),
 )
 
 pub answer-exactly-if-timetable : AnswerExactlyIfTimetable
-answer-exactly-if-timetable l r answers sound short =
-    let exactly : Admits l ↔ CycleTimetable l = admitted-exactly-if-timetable l sound short in (
-      λ a. exactly .0 (a .0, a .1, sym answers ∙ ap toldAdmission (a .2)),
+answer-exactly-if-timetable l h r answers sound cycle short =
+    let exactly : Admits l ↔ CycleTimetable l h = admitted-exactly-if-timetable l h sound cycle short in (
+      λ a. exactly .0 (h, a .0, ap toldAdmission (sym (a .1)) ∙ answers),
       λ t.
           let a : Admits l = exactly .1 t in
-          (a .0, a .1, admission-one-to-one r (Admitted (a .0) (a .1)) (answers ∙ a .2)),
+          let same : a .0 ≡ h = multiple-unique (admitted-exactly l relaxed (a .0) (a .1) .0 (sym (a .2)) .0 .cycle) cycle in (
+            a .1,
+            admission-one-to-one r (Admitted (a .0) (a .1)) (answers ∙ sym (a .2)) ∙ ap (λ (x : ℕ). Admitted x (a .1)) same,
+          ),
     )

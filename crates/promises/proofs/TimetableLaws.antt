@@ -7,7 +7,7 @@ use native.Mathlib.Nat.{mul-comm}
 use native.Mathlib.Omega.{arith}
 use lib.Dec.{eqb}
 use lib.ListN.{length, take, drop}
-use lib.Seq.{take-at, take-add, drop-at, drop-append-le, length-take-le}
+use lib.Seq.{take-add, drop-at, drop-append-le, length-take-le}
 use borrow.Author.Tests.{eq-eqb}
 use Rattle.job.specs.declared.record.Job.{Job}
 use Rattle.job.specs.declared.list.JobList.{JobList}
@@ -17,35 +17,26 @@ use Rattle.job.specs.Window.{windowOf}
 use Rattle.place.specs.declared.setting.Setting.{Setting}
 use Rattle.place.specs.declared.record.Place.{Place}
 use Rattle.place.specs.Place.{windowEnds}
-use Rattle.run.specs.declared.state.State.{State}
 use Rattle.run.specs.State.{clockMost, freshOf}
 use Rattle.run.specs.Sound.{SoundState}
-use Rattle.run.specs.Run.{afterSlots, choicesOf}
-use Rattle.run.specs.Bytes.{slotsOf}
-use Rattle.run.specs.History.{sinceWindow, periodsBegun, PlaceHistory}
-use Rattle.run.specs.Meaning.{at}
+use Rattle.run.specs.Run.{choicesOf}
+use Rattle.rules.specs.Rules.{slotsOf, sinceWindow, periodsBegun}
+use Rattle.run.proofs.ChoiceLaws.{at}
 use Rattle.promises.specs.DemandThree.{windowOrder}
-use Rattle.run.proofs.BytesLaws.{countIn-more}
-use Rattle.run.proofs.CycleLaws.{Tick, nothing-ends, period-ends, window-ends, tick}
+use Rattle.rules.proofs.BytesLaws.{countIn-more}
+use Rattle.rules.proofs.CycleLaws.{Tick, nothing-ends, period-ends, window-ends, tick}
 use Rattle.run.proofs.TurnLaws.{nextByte, byte-at, byte-fair}
-use Rattle.run.proofs.RunLaws.{choices-more, choices-add, choices-long}
-use Rattle.run.proofs.RunHistory.{history-holds}
+use Rattle.run.proofs.RunLaws.{choices-more, choices-long}
+use Rattle.rules.proofs.HistoryLaws.{PlaceHistory}
+use Rattle.rules.proofs.RunLaws.{places-told}
 use Rattle.promises.proofs.WindowLaws.{usedOf, used-most}
 use Rattle.promises.proofs.WorkLaws.{serviceOf, missedOf, missed-over}
-use Rattle.promises.proofs.OnTimeLaws.{runOf, run-model, run-listed, run-sound}
+use Rattle.promises.proofs.OnTimeLaws.{window-allowed, runOf, run-model, run-listed, run-sound}
 use Rattle.promises.proofs.AdmittedLaws.{Holds, admitted-none-missed}
 
 -- the choices of the run
-abbrev pub bytesOf : JobList → ℕ → List ℕ
-bytesOf l n = choicesOf (freshOf l windowOrder) n
-
--- the first n choices of m
-pub choices-first : (s : State) (n m : ℕ) → n ≤ m → take n (choicesOf s m) ≡ choicesOf s n
-choices-first s n m h =
-    let whole : m ≡ n + (m - n) = omega arith in
-    ap (λ (x : ℕ). take n (choicesOf s x)) whole
-    ∙ ap (take n) (choices-add s n (m - n))
-    ∙ take-at (choicesOf s n) (choicesOf (afterSlots s n) (m - n)) n (choices-long s n)
+abbrev pub runBytes : JobList → ℕ → List ℕ
+runBytes l n = choicesOf (freshOf l windowOrder) n
 
 -- a part of a list, seen from where it ends
 pub part-of-front : (n m : ℕ) (bytes : List ℕ) → n ≤ length bytes → take m (drop n bytes) ≡ drop n (take (n + m) bytes)
@@ -81,21 +72,21 @@ module _ (l : JobList) (sound : SoundList l) (i : ℕ) (listed : i < l .count) (
   abbrev chosen : Bool
   chosen = eqb (nextByte (runOf l n)) i
 
-  place-told : PlaceHistory windowOrder job i n (bytesOf l n) place
-  place-told = history-holds l windowOrder sound refl n (omega arith) .places-are i listed
+  place-told : PlaceHistory windowOrder job i n (runBytes l n) place
+  place-told = places-told l windowOrder sound window-allowed n (omega arith) i listed
 
   -- the slots of the window open in slot n, that slot counted
-  slots-told : slotsOf i (sinceWindow job n (bytesOf l (n + 1))) ≡ usedOf place chosen
+  slots-told : slotsOf i (sinceWindow job n (runBytes l (n + 1))) ≡ usedOf place chosen
   slots-told =
       let next : List ℕ = nextByte (runOf l n) ∷ [] in
       ap (λ (x : List ℕ). slotsOf i (sinceWindow job n x)) (choices-more (freshOf l windowOrder) n)
       ∙ ap (slotsOf i)
-      (drop-append-le (n - n % windowOf job) (bytesOf l n) next (omega (arith, choices-long (freshOf l windowOrder) n)))
-      ∙ countIn-more (λ b. eqb b i) (sinceWindow job n (bytesOf l n)) (nextByte (runOf l n))
+      (drop-append-le (n - n % windowOf job) (runBytes l n) next (omega (arith, choices-long (freshOf l windowOrder) n)))
+      ∙ countIn-more (λ b. eqb b i) (sinceWindow job n (runBytes l n)) (nextByte (runOf l n))
       ∙ ap (λ (u : ℕ). cond chosen (u + 1) u) (sym (place-told .u-is refl))
 
   -- they are at most C for each period begun
-  pub slots-most : slotsOf i (sinceWindow job n (bytesOf l (n + 1))) ≤ job .c * periodsBegun job n
+  pub slots-most : slotsOf i (sinceWindow job n (runBytes l (n + 1))) ≤ job .c * periodsBegun job n
   slots-most =
       let now : SoundState (runOf l n) = run-sound l sound n (omega arith) in
       let here : i < runOf l n .count = run-listed l n listed in
@@ -105,7 +96,7 @@ module _ (l : JobList) (sound : SoundList l) (i : ℕ) (listed : i < l .count) (
 
   -- and at least m times C where the window ends
   pub slots-full :
-      Holds l → n % windowOf job + 1 ≡ windowOf job → serviceOf job ≤ slotsOf i (sinceWindow job n (bytesOf l (n + 1)))
+      Holds l → n % windowOf job + 1 ≡ windowOf job → serviceOf job ≤ slotsOf i (sinceWindow job n (runBytes l (n + 1)))
   slots-full holds closes =
       let now : SoundState (runOf l n) = run-sound l sound n (omega arith) in
       let over : windowEnds place ≡ true = window-ends-told place (sound .jobs i listed) place-told closes in

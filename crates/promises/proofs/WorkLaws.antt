@@ -3,9 +3,8 @@ use mathlib.Core.Path.{_≡_, refl, _∙_}
 use mathlib.Core.Bool.{Bool, true, false, cond}
 use mathlib.Core.Logic.{_⊎_, inl, inr}
 use Prim.Native.Nat.{ℕ, _+_, _-_, _*_, _/_, _≤_, _<_}
-use native.Mathlib.Nat.{add-zero, sub-zero, mul-le-mul-left, div-mul-le-self, div-lt-iff-lt-mul}
+use native.Mathlib.Nat.{add-zero, sub-zero, mul-le-mul-left, div-mul-le-self}
 use native.Mathlib.Omega.{arith}
-use borrow.Author.Tests.{eq-eqb}
 use Rattle.job.specs.declared.record.Job.{Job}
 use Rattle.job.specs.Limit.{relaxed}
 use Rattle.job.specs.Sound.{SoundJob}
@@ -13,11 +12,10 @@ use Rattle.job.specs.Window.{windowOf}
 use Rattle.place.specs.declared.setting.Setting.{Setting}
 use Rattle.place.specs.declared.record.Place.{Place}
 use Rattle.place.specs.Opening.{opened}
-use Rattle.place.specs.Place.{finishedOf, owedOf, eligibleOf, workedOf, windowEnds, movedOf}
+use Rattle.place.specs.Place.{eligibleOf, windowEnds, movedOf}
 use Rattle.place.specs.Sound.{SoundPlace}
 use Rattle.admission.proofs.CycleLaws.{window-positive}
 use Rattle.place.proofs.PlaceLaws.{eligible-relaxed}
-use Rattle.run.proofs.CounterLaws.{Served, worked}
 use Rattle.promises.proofs.AmountLaws.{amount, amount-in, amount-out, amount-shift, amount-more, amount-new, amount-last, amount-bound, lack-within-share}
 use Rattle.promises.proofs.WindowLaws.{leftOf, usedOf, Stays, Ends, opened-left, not-eligible, left-more, moved-view}
 
@@ -162,14 +160,3 @@ module _ {setting : Setting} {q : Place} (sound : SoundPlace setting q) (model :
       go (inr s) =
           rw (ends-due q true D s (sound .job), s .last-slot, amount-last window service (service - q .at .u) D)
           (omega (arith, some))
-
-  -- a window that ends short misses something
-  pub short-missed :
-      (chosen : Bool) → windowEnds q ≡ true → 0 < owedOf setting (workedOf setting q chosen false) → 0 < missedOf q chosen
-  unfolding owedOf finishedOf
-  short-missed chosen over owed =
-      let served : Served setting q chosen (workedOf setting q chosen false) = worked setting q chosen false in
-      let few : 0 < q .job .m - usedOf q chosen / q .job .c =
-      rw (eq-eqb (setting .model) relaxed model, served .u-more model, served .same-job) at owed in
-      let used-few : usedOf q chosen < service = div-lt-iff-lt-mul (sound .job .c .low) .0 (omega arith) in
-      rw (missed-over q chosen over) (omega arith)

@@ -1,19 +1,17 @@
 -- 'Runs worked by hand', the nine marked to be proved, in one list with one claim over it.
-use Prim.Native.Nat.{ℕ, zero, suc}
+use Prim.Native.Nat.{ℕ, zero, suc, _-_}
 use mathlib.Core.Path.{_≡_}
 use mathlib.Core.List.{List, [], _∷_, _++_, map}
-use lib.ListN.{length}
+use lib.ListN.{length, replicate}
 use Rattle.job.specs.declared.record.Job.{Job}
-use Rattle.job.specs.Limit.{relaxed, original}
+use Rattle.job.specs.declared.list.JobList.{JobList}
+use Rattle.job.specs.Limit.{countMost, relaxed, original}
 use Rattle.job.specs.Told.{Told, row}
+use Rattle.job.specs.Check.{noJob}
 use Rattle.admission.specs.Verdict.{verdictTold}
-use Rattle.admission.specs.Lent.{listOf}
 use Rattle.place.specs.Setting.{orderV, orderW}
 use Rattle.run.specs.declared.state.State.{State}
-use Rattle.run.specs.Slot.{turnOf}
-use Rattle.run.specs.Answer.{toldSlot}
-use Rattle.run.specs.Step.{startState}
-use Rattle.run.specs.Run.{afterSlots}
+use Rattle.run.specs.Step.{startState, stepTold, stepState}
 
 -- what a case shows: the answers of its slots (first tags, short windows, the job or nothing), and the verdict
 pub record Shown : Type 0 where
@@ -26,17 +24,21 @@ pub record Case : Type 0 where
   pub model : ℕ
   pub shown : Shown
 
--- the answers of the first n slots
+-- what n calls of `step` tell
 unfoldable pub answersOf : State → ℕ → List (List ℕ)
 answersOf s zero = []
-answersOf s (suc n) = answersOf s n ++ (toldSlot (turnOf (afterSlots s n) .slot) ∷ [])
+answersOf s (suc n) = stepTold s .values ∷ answersOf (stepState s) n
 
--- by the definitions that the contracts cite
+-- a list of jobs by value
+abbrev pub listed : List Job → JobList
+listed jobs = record { jobs = jobs ++ replicate (countMost - length jobs) noJob; count = length jobs }
+
+-- by the definitions that the promises of `start`, `step` and `verdict` cite
 abbrev pub worked : Case → Shown
 worked c =
     record {
-      slots = answersOf (startState (listOf (c .jobs)) (record { order = c .order; model = c .model })) (length (c .shown .slots));
-      verdict = verdictTold (listOf (c .jobs)) (c .model);
+      slots = answersOf (startState (listed (c .jobs)) (record { order = c .order; model = c .model })) (length (c .shown .slots));
+      verdict = verdictTold (listed (c .jobs)) (c .model);
     }
 
 -- 'Jobs are written C T m k.'

@@ -1,65 +1,58 @@
 -- Demand 3: 'A sound list in the relaxed model, cycle at most 16,777,216, is admitted exactly if some lawful, full timetable of one
 -- cycle exists; and an admitted list run in window order from slot 0 has no short window up to the clock's limit.'
-use Prim.Native.Nat.{ℕ, zero, suc, _≤_, _<_}
+use Prim.Native.Nat.{ℕ, _≤_, _<_}
+use lib.ListN.{length, getD}
 use mathlib.Core.Path.{_≡_}
 use mathlib.Core.Logic.{_↔_}
-use mathlib.Core.List.{List, [], _∷_}
+use mathlib.Core.List.{List}
 use Rattle.job.specs.declared.list.JobList.{JobList}
 use Rattle.job.specs.Limit.{relaxed, cycleMost}
-use Rattle.job.specs.Told.{row}
 use Rattle.job.specs.Sound.{SoundList}
 use Rattle.admission.specs.declared.answer.Admission.{Admission}
 use Rattle.admission.specs.declared.answer.Admission.the-variants.{Admitted}
-use Rattle.admission.specs.Cycle.{cycleOf}
-use Rattle.admission.specs.Answer.{toldAdmission}
-use Rattle.admission.specs.Verdict.{verdictTold}
+use Rattle.admission.specs.Promise.{VerdictPromise}
+use Rattle.admission.specs.Judged.{LeastCommonMultiple}
 use Rattle.place.specs.declared.setting.Setting.{Setting}
-use Rattle.place.specs.Setting.{orderW}
 use Rattle.run.specs.declared.state.State.{State}
 use Rattle.run.specs.declared.answer.Slot.{Slot}
-use Rattle.run.specs.State.{clockMost}
-use Rattle.run.specs.Answer.{toldSlot}
-use Rattle.run.specs.Step.{startState, stepTold, stepState}
+use Rattle.run.specs.Calls.{Run, bytesOf}
+use Rattle.rules.specs.Meaning.{noSlot}
 use Rattle.promises.specs.Lawful.{Timetable, Lawful, Full}
 
--- what `verdict` may answer of a list in the relaxed model, by its contract, is an admission
+-- what `verdict` may answer of a list in the relaxed model, by its promise, is an admission
 abbrev pub Admits : JobList → Type 0
-Admits l = (h : ℕ) × (d : ℕ) × (verdictTold l relaxed ≡ row 0 (h ∷ d ∷ []))
+Admits l = (h : ℕ) × (d : ℕ) × VerdictPromise l relaxed (Admitted h d)
 
--- a timetable of one cycle
-pub record CycleTimetable (l : JobList) : Type 0 where
+-- a lawful, full timetable of h slots; below, h is the cycle
+pub record CycleTimetable (l : JobList) (h : ℕ) : Type 0 where
   pub bytes : List ℕ
-  pub names : Timetable l (cycleOf l) bytes
+  pub names : Timetable l h bytes
   pub lawful : Lawful l bytes
   pub full : Full l bytes
 
--- the first half, about the definition that the contract of `verdict` cites ..
+-- the first half ..
 abbrev pub AdmittedExactlyIfTimetable : Type 0
-AdmittedExactlyIfTimetable = (l : JobList) → SoundList l → cycleOf l ≤ cycleMost → Admits l ↔ CycleTimetable l
+AdmittedExactlyIfTimetable =
+    (l : JobList) (h : ℕ) → SoundList l → LeastCommonMultiple l h → h ≤ cycleMost → Admits l ↔ CycleTimetable l h
 
--- .. and about whatever answer its contract allows
+-- .. and of whatever answer the promise allows
 abbrev pub AnswerExactlyIfTimetable : Type 0
 AnswerExactlyIfTimetable =
-    (l : JobList) (r : Admission) → toldAdmission r ≡ verdictTold l relaxed → SoundList l → cycleOf l ≤ cycleMost
-    → ((h : ℕ) × (d : ℕ) × (r ≡ Admitted h d)) ↔ CycleTimetable l
+    (l : JobList) (h : ℕ) (r : Admission) → VerdictPromise l relaxed r → SoundList l → LeastCommonMultiple l h → h ≤ cycleMost
+    → ((d : ℕ) × (r ≡ Admitted h d)) ↔ CycleTimetable l h
 
--- the second half: 'run in window order from slot 0'
+-- the second half: 'run in window order from slot 0', where 'order .. 1 is W; model 0 is relaxed'
 abbrev pub windowOrder : Setting
-windowOrder = record { order = orderW; model = relaxed }
+windowOrder = record { order = 1; model = 0 }
 
--- the state after n calls of `step`
-unfoldable pub stepped : State → ℕ → State
-stepped s zero = s
-stepped s (suc n) = stepState (stepped s n)
-
--- the answer of a step that is done, with no window short
-pub record NoneShort (s : State) : Type 0 where
-  pub slot : Slot
-  pub done : stepTold s ≡ row 0 (toldSlot slot)
-  pub none : slot .shorts ≡ 0
-
+-- no slot of a run of an admitted list tells a short window, and none is counted; there are runs up to the clock's limit (`RunExists` of rules)
 abbrev pub NeverShort : Type 0
 NeverShort =
-    (l : JobList) → Admits l → (n : ℕ)
-    → (n < clockMost → NoneShort (stepped (startState l windowOrder) n))
-    × (n ≤ clockMost → stepped (startState l windowOrder) n .totals .shorts ≡ 0)
+    (l : JobList) → Admits l → (slots : List Slot) (state : State) → Run l windowOrder slots state
+    → ((n : ℕ) → n < length slots → getD slots n noSlot .shorts ≡ 0) × (state .totals .shorts ≡ 0)
+
+-- such a run, of any length, is a lawful timetable in which every ended window is full
+abbrev pub RunsLawful : Type 0
+RunsLawful =
+    (l : JobList) → Admits l → (slots : List Slot) (state : State) → Run l windowOrder slots state
+    → Timetable l (length slots) (bytesOf slots) × Lawful l (bytesOf slots) × Full l (bytesOf slots)

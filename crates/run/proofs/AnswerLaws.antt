@@ -3,7 +3,8 @@ use mathlib.Core.Path.{_≡_, refl, sym, _∙_, ap}
 use mathlib.Core.Bool.{Bool, true, false, cond}
 use mathlib.Core.Logic.{_↔_}
 use mathlib.Core.List.{List, [], _∷_}
-use Prim.Native.Nat.{ℕ}
+use Prim.Native.Nat.{ℕ, _<_}
+use native.Mathlib.Omega.{arith}
 use lib.Dec.{eqb}
 use lib.ListN.{getD, drop}
 use borrow.Author.Tests.{eqb-true, eqb-false}
@@ -21,9 +22,10 @@ use Rattle.run.specs.Slot.{turnOf}
 use Rattle.run.specs.Range.{stateInRange}
 use Rattle.run.specs.Sound.{SoundState}
 use Rattle.run.specs.Answer.{toldChoice, toldSlot, toldStep}
-use Rattle.run.specs.Step.{stepTold}
-use Rattle.run.specs.Meaning.{StepOneToOne, RowTenExactly, RowElevenExactly}
+use Rattle.run.specs.Step.{stepTold, stepState}
+use Rattle.run.specs.Meaning.{StepOneToOne, StepTold, StepAnswers}
 use Rattle.run.proofs.RangeLaws.{range-exactly}
+use Rattle.run.proofs.KeepLaws.{turn-keeps-sound}
 
 -- the answer read back from its values
 choiceBack : List ℕ → Choice
@@ -68,7 +70,7 @@ step-view s = go (stateInRange s) (eqb (s .clock) clockMost) refl refl
     go true true e f = at-limit (range-exactly s .0 e) (eqb-true (s .clock) clockMost f) (rw (e, f))
     go true false e f = goes-on (range-exactly s .0 e) (eqb-false (s .clock) clockMost f) (rw (e, f))
 
-pub row-ten-exactly : RowTenExactly
+row-ten-exactly : (s : State) → (stepTold s ≡ row 10 []) ↔ (SoundState s → ⊥)
 row-ten-exactly s = go (step-view s)
   where
     go : StepView s → (stepTold s ≡ row 10 []) ↔ (SoundState s → ⊥)
@@ -76,10 +78,61 @@ row-ten-exactly s = go (step-view s)
     go (at-limit h c e) = (λ f. absurd (apart (sym e ∙ f) refl), λ n. absurd (n h))
     go (goes-on h c e) = (λ f. absurd (apart (sym e ∙ f) refl), λ n. absurd (n h))
 
-pub row-eleven-exactly : RowElevenExactly
+row-eleven-exactly : (s : State) → (stepTold s ≡ row 11 []) ↔ (SoundState s × (s .clock ≡ clockMost))
 row-eleven-exactly s = go (step-view s)
   where
     go : StepView s → (stepTold s ≡ row 11 []) ↔ (SoundState s × (s .clock ≡ clockMost))
     go (out-of-range n e) = (λ f. absurd (apart (sym e ∙ f) refl), λ h. absurd (n (h .0)))
     go (at-limit h c e) = (λ _. (h, c), λ _. e)
     go (goes-on h c e) = (λ f. absurd (apart (sym e ∙ f) refl), λ h. absurd (c (h .1)))
+
+-- the state, by the answer
+module _ (s : State) where
+  pub state-done : stepTold s ≡ row 0 (toldSlot (turnOf s .slot)) → stepState s ≡ turnOf s .state
+  unfolding stepState
+  state-done e = rw e
+
+  state-kept : (n : ℕ) (vs : List ℕ) → stepTold s ≡ row n vs → eqb n 0 ≡ false → stepState s ≡ s
+  unfolding stepState
+  state-kept n vs e f = rw (e, f)
+
+pub step-answers : StepAnswers
+step-answers s r promise = go (step-view s)
+  where
+    ten : (toldStep (r .answer) ≡ row 10 []) ↔ (SoundState s → ⊥)
+    ten = rw (promise .0) (row-ten-exactly s)
+
+    eleven : (toldStep (r .answer) ≡ row 11 []) ↔ (SoundState s × (s .clock ≡ clockMost))
+    eleven = rw (promise .0) (row-eleven-exactly s)
+
+    -- a refusal is no slot
+    refused : {n : ℕ} → stepTold s ≡ row n [] → eqb n 0 ≡ false → (slot : Slot) → r .answer ≡ Done slot → ⊥
+    refused e f slot d = apart (sym e ∙ sym (promise .0) ∙ ap toldStep d) f
+
+    go : StepView s → StepTold s r
+    go (out-of-range broken e) =
+        record {
+          row-ten = ten;
+          row-eleven = eleven;
+          done = (λ d. absurd (refused e refl (d .0) (d .1)), λ h. absurd (broken (h .0)));
+          sound = λ good. absurd (broken good);
+          keeps = λ none. promise .1 ∙ state-kept s 10 [] e refl;
+        }
+    go (at-limit good last e) =
+        record {
+          row-ten = ten;
+          row-eleven = eleven;
+          done = (λ d. absurd (refused e refl (d .0) (d .1)), λ h. absurd (omega (arith, h .1)));
+          sound = λ _. rw (promise .1 ∙ state-kept s 11 [] e refl) good;
+          keeps = λ none. promise .1 ∙ state-kept s 11 [] e refl;
+        }
+    go (goes-on good below e) =
+        let slot-is : r .answer ≡ Done (turnOf s .slot) = step-one-to-one (r .answer) (Done (turnOf s .slot)) (promise .0 ∙ e) in
+        let left : s .clock < clockMost = omega (arith, good .clock-high) in
+        record {
+          row-ten = ten;
+          row-eleven = eleven;
+          done = (λ d. (good, left), λ h. (turnOf s .slot, slot-is));
+          sound = λ _. rw (promise .1 ∙ state-done s e) (turn-keeps-sound s good left);
+          keeps = λ none. absurd (none (turnOf s .slot) slot-is);
+        }

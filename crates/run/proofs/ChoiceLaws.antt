@@ -6,7 +6,6 @@ use mathlib.Core.List.{List}
 use Prim.Native.Nat.{ℕ, zero, suc, _+_, _-_, _*_, _≤_, _<_}
 use native.Mathlib.Numerals.{add-one}
 use native.Mathlib.Omega.{arith}
-use lib.Dec.{eqb}
 use borrow.Author.Count.{below-none, below-more}
 use borrow.Author.Tests.{ltb-false, ne-eqb}
 use Rattle.place.specs.declared.setting.Setting.{Setting}
@@ -16,17 +15,23 @@ use Rattle.place.specs.Setting.{orderV, orderW, inOrderV}
 use Rattle.place.specs.Place.{windowLeft, eligibleOf}
 use Rattle.place.specs.Choice.{distanceOf, nearerOf, betterOf, nobody}
 use Rattle.run.specs.declared.state.State.{State}
-use Rattle.run.specs.declared.answer.Choice.{Choice}
 use Rattle.run.specs.declared.answer.Choice.the-variants.{Given, Idle}
 use Rattle.run.specs.State.{placeAt}
 use Rattle.run.specs.Choice.{heldUpto, chosenOf}
 use Rattle.run.specs.Slot.{choiceOf, turnOf}
 use Rattle.run.specs.Sound.{SoundState}
-use Rattle.run.specs.Meaning.{at, IsEligible, distance, Chosen, GivenExactly, IdleExactly}
 use Rattle.job.proofs.TestLaws.{clash, both}
 use Rattle.place.proofs.CondLaws.{by-test}
 use Rattle.place.proofs.PlaceLaws.{eligible-owed}
-use Rattle.place.proofs.DistanceLaws.{nearer-self, nearer-back, nearer-through, neither-nearer, same-nearer, nobody-farther}
+use Rattle.place.proofs.DistanceLaws.{nearer-self, nearer-back, nearer-through, nobody-farther}
+
+-- place i of a state, and whether it is eligible
+
+abbrev pub at : State → ℕ → Place
+at s i = placeAt (s .places) i
+
+abbrev pub IsEligible : State → ℕ → Type 0
+IsEligible s i = eligibleOf (s .setting) (at s i) ≡ true
 
 -- a place's distance
 
@@ -53,13 +58,14 @@ one-more-held setting places i e f =
     rw (add-one i) (f ∙ ap (λ (h : Held). betterOf setting h i (placeAt places i)) e)
 
 module _ (setting : Setting) (places : List Place) where
-  abbrev Eligible : ℕ → Type 0
+  abbrev pub Eligible : ℕ → Type 0
   Eligible i = eligibleOf setting (placeAt places i) ≡ true
 
-  abbrev away : ℕ → Held
+  abbrev pub away : ℕ → Held
   away i = distanceOf setting i (placeAt places i)
 
-  record Nearest (n j : ℕ) : Type 0 where
+  -- place j is the one to choose among the first n
+  pub record Nearest (n j : ℕ) : Type 0 where
     pub listed : j < n
     pub is-eligible : Eligible j
     pub none-nearer : (i : ℕ) → i < n → Eligible i → nearerOf (away i) (away j) ≡ false
@@ -121,16 +127,8 @@ module _ (setting : Setting) (places : List Place) where
 
 -- the choice of a state
 
-nearest-chosen : (s : State) (j : ℕ) → Nearest (s .setting) (s .places) (s .count) j → Chosen s j
-nearest-chosen s j best =
-    record {
-      listed = best .listed;
-      is-eligible = best .is-eligible;
-      none-sooner = best .none-nearer;
-      none-lower =
-          λ i h eligible same.
-          clash (same-nearer (distance s j) (distance s i) (sym same)) (best .lower-farther i h eligible);
-    }
+abbrev pub Chosen : State → ℕ → Type 0
+Chosen s j = Nearest (s .setting) (s .places) (s .count) j
 
 -- a job that is the one to choose, or 16 where none is eligible
 pub data ChoiceView (s : State) : ℕ → Type 0 where
@@ -143,7 +141,7 @@ choice-view s = go (heldUpto (s .setting) (s .places) (s .count)) (held-view (s 
   where
     go : (h : Held) → HeldView (s .setting) (s .places) (s .count) h → ChoiceView s (h .at)
     go h (none-held none) = none-chosen none
-    go h (one-held j best) = rw (distance-at (s .setting) j (at s j)) (one-chosen j (nearest-chosen s j best))
+    go h (one-held j best) = rw (distance-at (s .setting) j (at s j)) (one-chosen j best)
 
 pub chosen-eligible : (s : State) (i : ℕ) → i < 16 → i ≡ chosenOf s → IsEligible s i
 chosen-eligible s i h = go (chosenOf s) (choice-view s)
@@ -154,10 +152,7 @@ chosen-eligible s i h = go (chosenOf s) (choice-view s)
 
 -- there is no second job to choose
 not-below : (s : State) (i j : ℕ) → Chosen s i → Chosen s j → i < j → ⊥
-not-below s i j a b h =
-    b .none-lower i h (a .is-eligible)
-    (neither-nearer (distance s i) (distance s j) (b .none-sooner i (a .listed) (a .is-eligible))
-    (a .none-sooner j (b .listed) (b .is-eligible)))
+not-below s i j a b h = clash (a .none-nearer j (b .listed) (b .is-eligible)) (b .lower-farther i h (a .is-eligible))
 
 chosen-unique : (s : State) (i j : ℕ) → Chosen s i → Chosen s j → i ≡ j
 chosen-unique s i j a b =
@@ -171,24 +166,13 @@ choice-given : {a : ℕ} → a < 16 → choiceOf a ≡ Given a
 unfolding choiceOf
 choice-given {a} h = rw (ne-eqb a 16 (omega arith))
 
-given-idle : {j : ℕ} → Given j ≡ Idle → ⊥
+pub given-idle : {j : ℕ} → Given j ≡ Idle → ⊥
 given-idle e = let z : _≡_ {A = ℕ} 0 1 = cc in omega arith
 
 given-same : {i j : ℕ} → Given i ≡ Given j → i ≡ j
 given-same e = cc
 
--- it names the place chosen
-pub given-chosen : (s : State) (i : ℕ) → i < 16 → (turnOf s .slot .choice ≡ Given i) ↔ (i ≡ chosenOf s)
-unfolding turnOf choiceOf
-given-chosen s i h = (to, λ e. ap choiceOf (sym e) ∙ choice-given h)
-  where
-    to : choiceOf (chosenOf s) ≡ Given i → i ≡ chosenOf s
-    to =
-        by-test (λ (c : Choice). c ≡ Given i → i ≡ chosenOf s) (eqb (chosenOf s) 16)
-        (λ t e. absurd (given-idle (sym e)))
-        (λ t e. sym (given-same e))
-
-pub given-exactly : GivenExactly
+pub given-exactly : (s : State) → SoundState s → (j : ℕ) → (turnOf s .slot .choice ≡ Given j) ↔ Chosen s j
 unfolding turnOf choiceOf
 given-exactly s sound j = go (chosenOf s) (choice-view s)
   where
@@ -199,7 +183,9 @@ given-exactly s sound j = go (chosenOf s) (choice-view s)
         let given : choiceOf i ≡ Given i = choice-given (omega (arith, c .listed, sound .count .high)) in
         (λ e. subst (Chosen s) (given-same (sym given ∙ e)) c, λ d. given ∙ ap Given (chosen-unique s i j c d))
 
-pub idle-exactly : IdleExactly
+pub idle-exactly :
+    (s : State) → SoundState s
+    → (turnOf s .slot .choice ≡ Idle) ↔ ((i : ℕ) → i < s .count → eligibleOf (s .setting) (at s i) ≡ false)
 unfolding turnOf choiceOf
 idle-exactly s sound = go (chosenOf s) (choice-view s)
   where
@@ -229,4 +215,4 @@ pub window-order :
     → windowLeft (at s j) - at s j .at .e ≤ windowLeft (at s i) - at s i .at .e
 window-order s sound order j given i listed eligible =
     window-nearer (s .setting) i j (at s i) (at s j) order
-    (given-exactly s sound j .0 given .none-sooner i listed eligible)
+    (given-exactly s sound j .0 given .none-nearer i listed eligible)

@@ -1,6 +1,5 @@
 -- The fresh state of a list: its places, and that it is sound.
 use mathlib.Core.Path.{_≡_, refl, ap}
-use mathlib.Core.Bool.{true}
 use mathlib.Core.List.{List}
 use Prim.Native.Nat.{ℕ, _+_, min, _≤_, _<_}
 use native.Mathlib.Numerals.{add-one}
@@ -14,14 +13,13 @@ use Rattle.job.specs.Check.{jobAt}
 use Rattle.job.specs.Filled.{filledUpto}
 use Rattle.place.specs.declared.setting.Setting.{Setting}
 use Rattle.place.specs.declared.record.Place.{Place}
-use Rattle.place.specs.Setting.{settingAllowed}
 use Rattle.place.specs.Opening.{blank, opened}
+use Rattle.place.specs.Sound.{Allowed}
 use Rattle.run.specs.declared.state.State.{State}
 use Rattle.run.specs.State.{placeAt, zeros, freshUpto, freshOf}
 use Rattle.run.specs.Sound.{SoundState}
 use Rattle.job.proofs.FilledLaws.{filled-long, filled-at, filled-past}
 use Rattle.place.proofs.PlaceLaws.{opened-sound}
-use Rattle.run.proofs.RangeLaws.{setting-facts}
 
 -- the state with the first n jobs of a list in their places
 abbrev pub openedUpto : JobList → Setting → ℕ → State
@@ -67,17 +65,16 @@ module _ (l : JobList) (s : Setting) (few : l .count ≤ countMost) where
   fresh-blank i past = rw all (filled-past blank (λ i. opened (jobAt (l .jobs) i)) (l .count) i past)
 
 -- the fresh state of a sound list is sound
-pub fresh-sound : (l : JobList) (s : Setting) → SoundList l → settingAllowed s ≡ true → SoundState (freshOf l s)
+pub fresh-sound : (l : JobList) (s : Setting) → SoundList l → Allowed s → SoundState (freshOf l s)
 fresh-sound l s sound allowed =
-    let setting = setting-facts s allowed in
     let few = sound .count .high in
     record {
       long = filled-long blank (λ i. opened (jobAt (l .jobs) i)) (min (l .count) countMost);
-      order = setting .0;
-      model = setting .1;
+      order = allowed .order;
+      model = allowed .model;
       clock-high = omega arith;
       count = sound .count;
-      places = λ i h. rw (fresh-listed l s few i h) (opened-sound (setting .1) (sound .jobs i h));
+      places = λ i h. rw (fresh-listed l s few i h) (opened-sound (allowed .model) (sound .jobs i h));
       blanks = λ i past h. fresh-blank l s few i past;
       slots = refl;
       tags-high = omega arith;

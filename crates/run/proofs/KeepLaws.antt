@@ -8,13 +8,13 @@ use borrow.Author.Tests.{eqb-true}
 use Rattle.place.specs.Place.{movedOf}
 use Rattle.place.specs.Sound.{SoundPlace}
 use Rattle.run.specs.declared.state.State.{State}
+use Rattle.run.specs.State.{clockMost}
 use Rattle.run.specs.Choice.{chosenOf}
 use Rattle.run.specs.Slot.{tagsAt, shortsAt, allMoved, turnOf}
 use Rattle.run.specs.Sound.{SoundState}
-use Rattle.run.specs.Meaning.{at, StepKeepsSound}
 use Rattle.place.proofs.PlaceLaws.{moved-sound}
 use Rattle.run.proofs.SlotLaws.{placed-length, placed-before, placed-later, count-high}
-use Rattle.run.proofs.ChoiceLaws.{chosen-eligible}
+use Rattle.run.proofs.ChoiceLaws.{at, chosen-eligible}
 
 module _ (s : State) (sound : SoundState s) (i : ℕ) (listed : i < s .count) where
   -- a job's place after the slot
@@ -36,9 +36,9 @@ one-more :
 one-more true given idles clock e = omega arith
 one-more false given idles clock e = omega arith
 
-pub step-keeps-sound : StepKeepsSound
+pub turn-keeps-sound : (s : State) → SoundState s → s .clock < clockMost → SoundState (turnOf s .state)
 unfolding turnOf allMoved
-step-keeps-sound s sound below =
+turn-keeps-sound s sound below =
     record {
       long = placed-length (s .setting) (s .places) (chosenOf s) (s .count) ∙ sound .long;
       order = sound .order;

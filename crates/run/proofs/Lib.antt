@@ -3,15 +3,12 @@ pub mod SlotLaws
 pub mod ChoiceLaws
 pub mod MovingLaws
 pub mod KeepLaws
-pub mod SetLaws
 pub mod RangeLaws
 pub mod FreshLaws
 pub mod StartLaws
 pub mod AnswerLaws
-pub mod BytesLaws
-pub mod CycleLaws
 pub mod CounterLaws
-pub mod HistoryLaws
 pub mod TurnLaws
 pub mod RunLaws
-pub mod RunHistory
+pub mod CallLaws
+pub mod SlotMeaning

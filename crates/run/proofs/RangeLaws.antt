@@ -24,9 +24,9 @@ use Rattle.run.specs.declared.state.State.{State}
 use Rattle.run.specs.State.{clockMost, setsMost, placeAt}
 use Rattle.run.specs.Sound.{SoundState}
 use Rattle.run.specs.Range.{jobPasses, serviceInRange, progressInRange, placeBlank, placeInRange, placesInRange, totalsInRange, stateInRange}
-use Rattle.run.specs.Meaning.{RangeExactly}
 use Rattle.job.proofs.TestLaws.{both}
 use Rattle.job.proofs.Meaning.{job-passes-exactly}
+use Rattle.place.proofs.Meaning.{allowed-exactly}
 
 -- the product of two widened numbers
 pub product-fits : {x y : ℕ} → x ≤ 4294967295 → y ≤ 4294967295 → Fits w64 (x * y)
@@ -261,12 +261,6 @@ totals-facts clock t e =
       leb-true (t .shorts) (setsMost * clock) (last .1),
     )
 
--- the setting
-pub setting-facts : (s : Setting) → settingAllowed s ≡ true → (s .order ≤ orderW) × (s .model ≤ original)
-setting-facts s e =
-    let tests = both (leb (s .order) orderW) (leb (s .model) original) e in
-    (leb-true (s .order) orderW (tests .0), leb-true (s .model) original (tests .1))
-
 -- the state
 state-facts : (s : State) → stateInRange s ≡ true → SoundState s
 unfolding stateInRange
@@ -275,16 +269,16 @@ state-facts s e =
     let tested = placesInRange (s .setting) (s .count) (s .places) countMost in
     let last = four fixed (leb (s .count) countMost) tested (totalsInRange (s .clock) (s .totals)) e in
     let first = four (eqb (length (s .places)) countMost) (settingAllowed (s .setting)) (leb (s .clock) clockMost) (leb 1 (s .count)) (last .0) in
-    let setting = setting-facts (s .setting) (first .1) in
+    let setting = allowed-exactly (s .setting) .0 (first .1) in
     let few = leb-true (s .count) countMost (last .1) in
     let totals = totals-facts (s .clock) (s .totals) (last .3) in
     record {
       long = eqb-true (length (s .places)) countMost (first .0);
-      order = setting .0;
-      model = setting .1;
+      order = setting .order;
+      model = setting .model;
       clock-high = leb-true (s .clock) clockMost (first .2);
       count = record { low = leb-true 1 (s .count) (first .3); high = few };
-      places = listed-facts (s .setting) (s .count) (s .places) (setting .1) (last .2) few;
+      places = listed-facts (s .setting) (s .count) (s .places) (setting .model) (last .2) few;
       blanks = blanks-facts (s .setting) (s .count) (s .places) (last .2);
       slots = totals .0;
       tags-high = totals .1;
@@ -298,5 +292,5 @@ state-test s h =
     ∙ simp
     (le-leb (s .setting .order) orderW (h .order), le-leb (s .setting .model) original (h .model), le-leb (s .clock) clockMost (h .clock-high), le-leb 1 (s .count) (h .count .low), le-leb (s .count) countMost (h .count .high), places-test (s .setting) (s .count) (s .places) (h .places) (h .blanks), h .slots, eq-eqb (s .clock) (s .clock) refl, le-leb (s .totals .tags) (setsMost * s .clock) (h .tags-high), le-leb (s .totals .shorts) (setsMost * s .clock) (h .shorts-high))
 
-pub range-exactly : RangeExactly
+pub range-exactly : (s : State) → (stateInRange s ≡ true) ↔ SoundState s
 range-exactly s = (state-facts s, state-test s)

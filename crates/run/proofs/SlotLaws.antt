@@ -1,26 +1,27 @@
 -- What one slot makes of each of the places, and the sets of its answer: as masks, and how many they hold.
-use mathlib.Core.Path.{_≡_, refl, ap, _∙_}
+use mathlib.Core.Path.{_≡_, refl, sym, ap, _∙_}
 use mathlib.Core.Bool.{Bool, true, false, _&&_, cond}
+use mathlib.Core.Logic.{_↔_}
 use mathlib.Core.List.{List}
-use Prim.Native.Nat.{ℕ, zero, suc, _+_, _-_, _*_, _/_, _^_, _≤_, _<_}
+use Prim.Native.Nat.{ℕ, zero, suc, _+_, _-_, _*_, _/_, _%_, _^_, _≤_, _<_}
 use native.Mathlib.Nat.{le-refl, pow-suc, div-eq-of-lt, add-div-right, add-mul-div-left, add-mul-mod-self-right, lt-of-lt-of-le}
 use native.Mathlib.Numerals.{add-one}
-use native.Mathlib.Decide.{le-ind}
 use native.Mathlib.Omega.{arith}
 use lib.Dec.{ltb}
 use lib.ListN.{length, set, length-set}
 use lib.Pow.{pow-pos, pow-add, pow-mono}
 use lib.Seq.{getD-set-same, getD-set-other}
 use borrow.Author.Count.{below-none, below-more}
-use borrow.Author.Tests.{ltb-true, ltb-false}
-use Rattle.job.specs.Limit.{countMost}
+use borrow.Author.Tests.{eqb-true, eq-eqb, ltb-true, ltb-false, lt-ltb}
+use Rattle.job.proofs.TestLaws.{both}
 use Rattle.place.specs.declared.setting.Setting.{Setting}
 use Rattle.place.specs.declared.record.Place.{Place}
 use Rattle.place.specs.declared.inner.service.Outcome.{Outcome}
 use Rattle.place.specs.Opening.{blank}
 use Rattle.run.specs.State.{placeAt}
 use Rattle.run.specs.Slot.{movedAt, placesUpto, maskUpto, countUpto}
-use Rattle.run.specs.History.{member, sizeOf}
+use Rattle.run.specs.Answer.{member}
+use Rattle.run.specs.SlotMeaning.{howMany}
 
 -- the places
 
@@ -120,12 +121,6 @@ step-here : (b : Bool) {m : ℕ} (n : ℕ) → m < 2 ^ n → member (cond b (m +
 step-here true n h = bit-set n h
 step-here false n h = bit-past n n h (le-refl n)
 
--- sets that agree below n have as many members there
-count-same : {f g : ℕ → Bool} (n : ℕ) → ((i : ℕ) → i < n → f i ≡ g i) → countUpto f n ≡ countUpto g n
-unfolding countUpto
-count-same zero h = refl
-count-same (suc n) h = rw (h n (omega arith), count-same n (λ i l. h i (omega arith)))
-
 module _ (f : ℕ → Bool) where
   member-below : (n i : ℕ) → i < n → member (maskUpto f n) i ≡ f i
   unfolding maskUpto
@@ -146,10 +141,23 @@ module _ (f : ℕ → Bool) where
       go true e = member-below n i (ltb-true i n e)
       go false e = member-past n i (ltb-false i n e)
 
-  -- a set of numbers below 16 has the size of its mask
-  pub size-mask : (n : ℕ) → n ≤ countMost → sizeOf (maskUpto f n) ≡ countUpto f n
-  unfolding countUpto
-  size-mask n h =
-      le-ind (λ (m : ℕ). countUpto (member (maskUpto f n)) m ≡ countUpto f n) (count-same n (member-below n))
-      (λ m past same. rw (member-past n m past) same)
-      countMost h
+-- the bits of a mask
+pub mask-exactly :
+    (f g : ℕ → Bool) {count listed : ℕ} → count ≡ listed → ((i : ℕ) → i < listed → f i ≡ g i) → (j : ℕ)
+    → (maskUpto f count / 2 ^ j % 2 ≡ 1) ↔ ((j < listed) × (g j ≡ true))
+mask-exactly f g {count} {listed} all same j = (
+  λ e.
+      let tests = both (ltb j count) (f j) (sym (member-mask f count j) ∙ eq-eqb (maskUpto f count / 2 ^ j % 2) 1 e) in
+      let below : j < listed = omega (arith, ltb-true j count (tests .0)) in
+      (below, sym (same j below) ∙ tests .1),
+  λ h.
+      eqb-true (maskUpto f count / 2 ^ j % 2) 1
+      (member-mask f count j ∙ rw (lt-ltb j count (omega (arith, h .0)), same j (h .0), h .1)),
+)
+
+-- how many a set holds
+pub count-is : (f g : ℕ → Bool) (n : ℕ) → ((i : ℕ) → i < n → f i ≡ g i) → countUpto f n ≡ howMany g n
+unfolding countUpto howMany
+count-is f g zero same = refl
+count-is f g (suc n) same =
+    rw (same n (omega arith)) (ap (λ (x : ℕ). cond (g n) (x + 1) x) (count-is f g n (λ i h. same i (omega arith))))

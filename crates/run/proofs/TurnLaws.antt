@@ -7,17 +7,13 @@ use lib.Dec.{eqb, ltb}
 use borrow.Author.Tests.{eqb-true, eqb-false, eq-eqb, ne-eqb, lt-ltb, le-ltb}
 use Rattle.place.specs.Place.{eligibleOf, movedOf}
 use Rattle.run.specs.declared.state.State.{State}
-use Rattle.run.specs.declared.answer.Choice.the-variants.{Given}
+use Rattle.run.specs.declared.answer.Choice.the-variants.{Given, Idle}
 use Rattle.run.specs.State.{placeAt}
 use Rattle.run.specs.Choice.{chosenOf}
-use Rattle.run.specs.Slot.{choiceOf, tagsAt, shortsAt, allMoved, turnOf}
+use Rattle.run.specs.Slot.{choiceOf, tagsAt, shortsAt, countUpto, allMoved, turnOf}
 use Rattle.run.specs.Sound.{SoundState}
 use Rattle.run.specs.Answer.{byteOf}
-use Rattle.run.specs.Bytes.{idleByte}
-use Rattle.run.specs.History.{sizeOf}
-use Rattle.run.specs.Meaning.{Chosen}
-use Rattle.run.proofs.ChoiceLaws.{given-exactly}
-use Rattle.run.proofs.SlotLaws.{size-mask}
+use Rattle.run.proofs.ChoiceLaws.{Chosen, given-exactly}
 use Rattle.run.proofs.KeepLaws.{turn-place as turn-moved}
 
 -- what the slot leaves as it is, and the clock
@@ -44,7 +40,7 @@ test-same a b = go (eqb b a) refl
 -- the byte b of the slot that a state is before: the place chosen, which is eligible, or idle
 pub data Byte (s : State) (b : ℕ) : Type 0 where
   names : b ≡ chosenOf s → b < s .count → eligibleOf (s .setting) (placeAt (s .places) b) ≡ true → Byte s b
-  idles : b ≡ idleByte → chosenOf s ≡ 16 → Byte s b
+  idles : b ≡ byteOf Idle → chosenOf s ≡ 16 → Byte s b
 
 abbrev pub nextByte : State → ℕ
 nextByte s = byteOf (turnOf s .slot .choice)
@@ -69,13 +65,13 @@ module _ (s : State) (sound : SoundState s) where
           rw (lt-ltb (nextByte s) (s .count) listed, ne-eqb (chosenOf s) 16 (omega arith))
       go (idles is none) = rw (le-ltb (nextByte s) (s .count) (omega arith), eq-eqb (chosenOf s) 16 none)
 
-  pub byte-idle : eqb (nextByte s) idleByte ≡ eqb (chosenOf s) 16
+  pub byte-idle : eqb (nextByte s) (byteOf Idle) ≡ eqb (chosenOf s) 16
   byte-idle = go byte-view
     where
-      go : Byte s (nextByte s) → eqb (nextByte s) idleByte ≡ eqb (chosenOf s) 16
+      go : Byte s (nextByte s) → eqb (nextByte s) (byteOf Idle) ≡ eqb (chosenOf s) 16
       go (names is listed eligible) =
-          rw (ne-eqb (nextByte s) idleByte (omega arith), ne-eqb (chosenOf s) 16 (omega arith))
-      go (idles is none) = rw (eq-eqb (nextByte s) idleByte is, eq-eqb (chosenOf s) 16 none)
+          rw (ne-eqb (nextByte s) (byteOf Idle) (omega arith), ne-eqb (chosenOf s) 16 (omega arith))
+      go (idles is none) = rw (eq-eqb (nextByte s) (byteOf Idle) is, eq-eqb (chosenOf s) 16 none)
 
   module _ (i : ℕ) (listed : i < s .count) where
     pub byte-at : eqb (nextByte s) i ≡ eqb i (chosenOf s)
@@ -102,19 +98,21 @@ module _ (s : State) (sound : SoundState s) where
   turn-given = rw byte-given
 
   pub turn-idle :
-      turnOf s .state .totals .idle ≡ cond (eqb (nextByte s) idleByte) (s .totals .idle + 1) (s .totals .idle)
+      turnOf s .state .totals .idle ≡ cond (eqb (nextByte s) (byteOf Idle)) (s .totals .idle + 1) (s .totals .idle)
   unfolding turnOf
   turn-idle = rw byte-idle
 
-  pub turn-tags : turnOf s .state .totals .tags ≡ s .totals .tags + sizeOf (turnOf s .slot .tags)
+  pub turn-tags :
+      turnOf s .state .totals .tags
+      ≡ s .totals .tags + countUpto (tagsAt (s .setting) (s .places) (chosenOf s)) (s .count)
   unfolding turnOf allMoved
-  turn-tags =
-      rw (size-mask (tagsAt (s .setting) (s .places) (chosenOf s)) (s .count) (sound .count .high))
+  turn-tags = refl
 
-  pub turn-shorts : turnOf s .state .totals .shorts ≡ s .totals .shorts + sizeOf (turnOf s .slot .shorts)
+  pub turn-shorts :
+      turnOf s .state .totals .shorts
+      ≡ s .totals .shorts + countUpto (shortsAt (s .setting) (s .places) (chosenOf s)) (s .count)
   unfolding turnOf allMoved
-  turn-shorts =
-      rw (size-mask (shortsAt (s .setting) (s .places) (chosenOf s)) (s .count) (sound .count .high))
+  turn-shorts = refl
 
   pub turn-place :
       (i : ℕ) → i < s .count

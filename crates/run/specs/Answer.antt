@@ -1,6 +1,8 @@
 -- The paper's values of a choice, a slot and a step.
-use Prim.Native.Nat.{ℕ}
+use Prim.Native.Nat.{ℕ, _/_, _%_, _^_}
+use mathlib.Core.Bool.{Bool}
 use mathlib.Core.List.{List, [], _∷_}
+use lib.Dec.{eqb}
 use Rattle.job.specs.Told.{Told, row, told}
 use Rattle.run.specs.declared.answer.Choice.{Choice}
 use Rattle.run.specs.declared.answer.Choice.the-variants.{Given, Idle}
@@ -17,6 +19,10 @@ toldChoice Idle = []
 abbrev pub byteOf : Choice → ℕ
 byteOf (Given j) = j
 byteOf Idle = 255
+
+-- a set is a mask: 'bit j' is job j
+abbrev pub member : ℕ → ℕ → Bool
+member mask i = eqb (mask / 2 ^ i % 2) 1
 
 -- the two sets, and the choice
 abbrev pub toldSlot : Slot → List ℕ

@@ -7,6 +7,7 @@ pub mod Sound
 pub mod Answer
 pub mod Step
 pub mod Run
-pub mod Bytes
-pub mod History
+pub mod Promise
+pub mod Calls
 pub mod Meaning
+pub mod SlotMeaning

@@ -1,7 +1,5 @@
 // The state of a run: a setting, the clock, the places of the jobs, and the totals.
-ghost use mathlib.Core.Path.{_≡_};
-ghost use Rattle.run.specs.State.{zeros, freshOf};
-ghost use Rattle.run.specs.Range.{stateInRange};
+ghost use Rattle.run.specs.Promise.{ZerosPromise, FreshPromise, InRangePromise};
 use crate::range;
 use job::JobList;
 use place::Place;
@@ -30,7 +28,7 @@ impl State {
 
     // 'the state of all zeros'
     pub fn zeros() -> State
-        ensures { λ r. ⌜ r ≡ zeros ⌝ }
+        ensures { λ r. ⌜ ZerosPromise r ⌝ }
     {
         State {
             setting: Setting { order: 0, model: 0 },
@@ -48,7 +46,7 @@ impl State {
 
     // The fresh state of a list: every window opens at slot 0. Places past the last job are zeros.
     pub fn fresh(list: JobList, setting: Setting) -> State
-        ensures { λ r. ⌜ r ≡ freshOf list setting ⌝ }
+        ensures { λ r. ⌜ FreshPromise list setting r ⌝ }
     {
         let mut state = State::zeros();
         state.setting = setting;
@@ -65,7 +63,7 @@ impl State {
 
     // Row 10: whether the state is in its ranges, whatever it holds.
     pub fn in_range(self) -> bool
-        ensures { λ r. ⌜ r ≡ stateInRange self ⌝ }
+        ensures { λ r. ⌜ InRangePromise self r ⌝ }
     {
         self.setting.allowed()
             & (self.clock <= State::CLOCK_MOST)

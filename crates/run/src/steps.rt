@@ -1,9 +1,7 @@
 // Starting a run, and one slot of it, for every list, setting and state.
 ghost use mathlib.Core.Path.{_≡_};
-ghost use Rattle.job.specs.Told.{toldChecked};
 ghost use Rattle.run.specs.State.{zeros};
-ghost use Rattle.run.specs.Answer.{toldStep};
-ghost use Rattle.run.specs.Step.{startTold, startState, stepTold, stepState};
+ghost use Rattle.run.specs.Promise.{StartPromise, StepPromise};
 use crate::answer::Started;
 use crate::answer::StepAnswer;
 use crate::answer::Stepped;
@@ -26,7 +24,7 @@ fn not_started(answer: Checked) -> Started
 
 // Tests 15, then 1 to 6.
 pub fn start(list: JobList, setting: Setting) -> Started
-    ensures { λ r. ⌜ (toldChecked (r .answer) ≡ startTold list setting) × (r .state ≡ startState list setting) ⌝ }
+    ensures { λ r. ⌜ StartPromise list setting r ⌝ }
 {
     if !setting.allowed() {
         return not_started(Checked::Refused(Refusal::OrderOrModel));
@@ -51,7 +49,7 @@ fn not_stepped(state: State, refusal: Refusal) -> Stepped
 
 // Tests 10, 11.
 pub fn step(state: State) -> Stepped
-    ensures { λ r. ⌜ (toldStep (r .answer) ≡ stepTold state) × (r .state ≡ stepState state) ⌝ }
+    ensures { λ r. ⌜ StepPromise state r ⌝ }
 {
     if !state.in_range() {
         return not_stepped(state, Refusal::StateOutOfRange);

@@ -9,7 +9,8 @@ use lib.Dec.{eqb}
 use lib.ListN.{length}
 use Rattle.job.specs.Told.{row, passed}
 use Rattle.sheet.specs.declared.reader.Reader.{Reader}
-use Rattle.sheet.specs.Sheet.{bytesMost, sheetTold}
+use Rattle.sheet.specs.Form.{bytesMost}
+use Rattle.sheet.specs.Sheet.{sheetTold}
 use Rattle.sheet.specs.Reader.{byteAt, startReader, SoundReader, ownByte, fitsOf, pushedOf, jobEndedOf, storedOf, advancedOf, betweenLines, readerUpto, fitsUpto}
 use Rattle.sheet.specs.Answer.{lastReader, readTold, readSheet}
 use Rattle.job.proofs.TestLaws.{clash}

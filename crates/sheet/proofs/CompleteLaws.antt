@@ -16,11 +16,10 @@ use Rattle.sheet.specs.declared.reader.Reader.{Reader}
 use Rattle.sheet.specs.Form.{numberMost, orderLetter, modelLetter, firstLine, jobLine, jobLines, SmallJob, SheetOf}
 use Rattle.sheet.specs.Sheet.{blankSheet}
 use Rattle.sheet.specs.Reader.{startReader, fitsOf, ownByte, valueAfter, advancedOf, endByte, sheetOf, pushedOf, jobEndedOf, storedOf}
-use Rattle.sheet.specs.Meaning.{Reads}
 use Rattle.text.proofs.DecimalLaws.{by-digits, decimal-one, decimal-more, decimal-some, decimal-length}
 use Rattle.sheet.proofs.ByteLaws.{readerAt, number-own, number-value, own-fits, own-leaves, end-fits, end-leaves}
-use Rattle.sheet.proofs.PushedLaws.{pushedAll, lastJob, all-count, all-at}
-use Rattle.sheet.proofs.RunLaws.{runFrom, Runs, no-bytes, one-byte, _then_}
+use Rattle.sheet.proofs.PushedLaws.{pushedAll, lastJob}
+use Rattle.sheet.proofs.RunLaws.{Runs, no-bytes, one-byte, _then_}
 
 -- one field
 module _ (job : Job) (sheet : Sheet) where
@@ -116,15 +115,3 @@ sheet-run {bytes} {s} {slots} {jobs} is =
     rw (is .text)
     (first-line-run s slots (is .order) (is .model) (is .slots-small)
     then job-lines-run noJob (sheetOf s slots (blankSheet .list)) jobs (is .jobs-small))
-
-pub read-values :
-    (bytes : List ℕ) (s : Setting) (slots : ℕ) (jobs : List Job) → SheetOf bytes s slots jobs
-    → Reads (runFrom startReader bytes .sheet) s slots jobs
-read-values bytes s slots jobs is =
-    rw (sheet-run is .ends)
-    record {
-      setting-is = refl;
-      slots-is = refl;
-      count-is = omega (arith, all-count (blankSheet .list) jobs);
-      jobs-are = λ i h few. all-at (blankSheet .list) jobs i i (omega arith) h (omega arith) few;
-    }

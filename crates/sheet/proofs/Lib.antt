@@ -10,3 +10,4 @@ pub mod ReadLaws
 pub mod AlongLaws
 pub mod FormLaws
 pub mod Meaning
+pub mod Cases

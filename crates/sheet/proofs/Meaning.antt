@@ -1,4 +1,4 @@
--- The statements of specs/Meaning about a read.
+-- The statements of specs/Meaning about a read and a blank sheet: first as laws of the definitions that the promises are made of.
 use mathlib.Core.Path.{_≡_, refl, sym, _∙_, ap, subst}
 use mathlib.Core.Bool.{Bool, true, false, or-true}
 use mathlib.Core.Logic.{_↔_, _⊎_, inl, inr}
@@ -7,38 +7,30 @@ use Prim.Native.Nat.{ℕ, suc, _+_, _≤_, _<_}
 use native.Mathlib.Numerals.{add-one}
 use native.Mathlib.Decide.{decLt}
 use native.Mathlib.Omega.{arith}
-use lib.Dec.{eqb, ltb}
+use lib.Dec.{eqb}
 use lib.ListN.{length, take, getD}
-use borrow.Author.Tests.{eqb-true, ltb-true, eq-eqb, lt-ltb}
-use Rattle.job.specs.declared.list.JobList.{JobList}
-use Rattle.job.specs.Told.{Told, row, passed}
-use Rattle.job.specs.Check.{listTold, jobAt}
-use Rattle.job.specs.Sound.{FaultOf, t-fault, c-fault, k-fault, m-fault}
+use borrow.Author.Tests.{eq-eqb, ne-eqb, lt-ltb, le-ltb}
 use Rattle.job.specs.declared.record.Job.{Job}
-use Rattle.job.proofs.ToldLaws.{apart, valued}
+use Rattle.job.specs.declared.list.JobList.{JobList}
+use Rattle.job.specs.Limit.{countMost}
+use Rattle.job.specs.Told.{Told, row, passed}
+use Rattle.job.specs.Check.{listTold}
+use Rattle.job.specs.Filled.{emptyList}
+use Rattle.job.specs.Sound.{Within, SoundList, FaultOf, t-fault, c-fault, k-fault, m-fault, LowestFault}
 use Rattle.job.proofs.TestLaws.{clash}
-use Rattle.job.proofs.Meaning.{ListView, no-jobs, many-jobs, sound-list, faulty-list, list-view, passes-exactly, row-one-exactly, row-two-exactly, job-rows-exactly}
+use Rattle.job.proofs.Meaning.{ListView, no-jobs, many-jobs, sound-list, faulty-list, list-view, passes-exactly, row-one-exactly as list-one, row-two-exactly as list-two, job-rows-exactly as list-jobs}
+use Rattle.place.specs.declared.setting.Setting.{Setting}
 use Rattle.sheet.specs.declared.reading.Sheet.{Sheet}
-use Rattle.sheet.specs.Form.{IsSheet, Begins}
-use Rattle.sheet.specs.Sheet.{bytesMost, slotsMost, sheetTold}
-use Rattle.sheet.specs.Answer.{lastReader, formTold, readTold}
-use Rattle.sheet.specs.Meaning.{FormExactly, ValuesRead, StopsAt, RowThirteenExactly, ReadThirteenExactly, RowSeventeenExactly, RowSixteenExactly}
-use Rattle.sheet.proofs.ByteLaws.{either, refuted}
-use Rattle.sheet.proofs.CompleteLaws.{read-values}
-use Rattle.sheet.proofs.ReadLaws.{slotsRefused, slots-refused, slots-pass, form-passes, form-refused, read-long, read-formed, read-formless}
-use Rattle.sheet.proofs.UptoLaws.{fits-begins, begins-fits, last-run, formFits, fits-sheet, sheet-fits, formed-fits, Stop, place-stop, place-is}
-
--- the form
-pub form-exactly : FormExactly
-form-exactly bytes = (go (formFits bytes) refl, λ is. form-passes bytes (sheet-fits bytes is))
-  where
-    go : (b : Bool) → formFits bytes ≡ b → formTold bytes ≡ passed → IsSheet bytes
-    go true fits e = fits-sheet bytes fits
-    go false fits e = absurd (valued (sym (form-refused bytes fits) ∙ e))
-
-pub values-read : ValuesRead
-values-read bytes s slots jobs is =
-    rw (last-run bytes) (read-values bytes s slots jobs is)
+use Rattle.sheet.specs.Form.{bytesMost, slotsMost, SheetOf, IsSheet, Begins, formList}
+use Rattle.sheet.specs.Sheet.{blankSheet, sheetTold}
+use Rattle.sheet.specs.Reader.{placeUpto, sheetOf}
+use Rattle.sheet.specs.Answer.{readTold, readSheet}
+use Rattle.sheet.specs.Meaning.{StopsAt, Formed, Listed, ReadAnswer, passes, row-one, row-two, job-row, row-thirteen, row-sixteen, row-seventeen, Returned, AllZeros, BlankZeros, ReadTold, ReadsExactly}
+use Rattle.sheet.proofs.ByteLaws.{refuted}
+use Rattle.sheet.proofs.PushedLaws.{pushedAll, all-kept, pushed-told}
+use Rattle.sheet.proofs.UptoLaws.{fits-begins, begins-fits, last-sheet, formFits, fits-sheet, sheet-fits, formed-fits, Stop, place-stop, place-is}
+use Rattle.sheet.proofs.ReadLaws.{read-long, read-formed, read-formless, passed-sheet}
+use Rattle.sheet.proofs.FormLaws.{values-determined}
 
 -- the place
 abbrev Stopping : List ℕ → ℕ → Type 0
@@ -81,121 +73,223 @@ module _ (bytes : List ℕ) where
             clash (stops-stop .stops (short .0)) (formed-fits bytes fits (suc place) (short .0))
         go (inr whole) fits = whole .1 (fits-sheet bytes fits)
 
-pub row-thirteen-exactly : RowThirteenExactly
-row-thirteen-exactly bytes place = (go (formFits bytes) refl, back)
-  where
-    go : (b : Bool) → formFits bytes ≡ b → formTold bytes ≡ row 13 (place ∷ []) → StopsAt bytes place
-    go true fits e = absurd (valued (sym e ∙ form-passes bytes fits))
-    go false fits e =
-        let same = ap (λ (t : Told). getD (t .values) 0 0) (sym (form-refused bytes fits) ∙ e) in
-        subst (StopsAt bytes) same (stop-stops bytes (place-stop bytes (length bytes)) fits)
+-- the slot count and the list of a sheet of the form
+abbrev WrongCount : ℕ → Type 0
+WrongCount slots = (slots ≡ 0) ⊎ (slotsMost < slots)
 
-    back : StopsAt bytes place → formTold bytes ≡ row 13 (place ∷ [])
-    back at =
-        form-refused bytes (stops-refused bytes at)
-        ∙ ap (λ (p : ℕ). row 13 (p ∷ [])) (place-is bytes (stops-stop bytes at))
-
--- rows 1 to 6 are none of the later ones
-fault-low : (j : Job) (r : ℕ) → FaultOf j r → r ≤ 6
-fault-low j _ (t-fault _) = omega arith
-fault-low j _ (c-fault _ _) = omega arith
-fault-low j _ (k-fault _ _ _) = omega arith
-fault-low j _ (m-fault _ _ _ _) = omega arith
-
-list-below : (l : JobList) (n : ℕ) (values : List ℕ) → 6 < n → listTold l ≡ row n values → ⊥
-list-below l n values h e = go (list-view l)
-  where
-    number : {m : ℕ} {vs : List ℕ} → listTold l ≡ row m vs → m ≡ n
-    number f = ap (λ (t : Told). t .number) (sym f ∙ e)
-
-    go : ListView l → ⊥
-    go (no-jobs none) = omega (arith, number (row-one-exactly l .1 none))
-    go (many-jobs many) = omega (arith, number (row-two-exactly l .1 many))
-    go (sound-list sound) = omega (arith, number (passes-exactly l .1 sound))
-    go (faulty-list r i lowest) =
-        omega (arith, number (job-rows-exactly l r i .1 lowest), fault-low (jobAt (l .jobs) i) r (lowest .fault))
-
--- what the sheet holds
 module _ (s : Sheet) where
-  sheet-sixteen : (sheetTold s ≡ row 16 []) ↔ ((s .slots ≡ 0) ⊎ (slotsMost < s .slots))
-  sheet-sixteen = (go (slotsRefused s) refl, back)
-    where
-      facts : (eqb (s .slots) 0 ≡ true) ⊎ (ltb slotsMost (s .slots) ≡ true) → (s .slots ≡ 0) ⊎ (slotsMost < s .slots)
-      facts (inl e) = inl (eqb-true (s .slots) 0 e)
-      facts (inr e) = inr (ltb-true slotsMost (s .slots) e)
+  slots-refused : WrongCount (s .slots) → sheetTold s ≡ row 16 []
+  unfolding sheetTold
+  slots-refused (inl none) = rw (eq-eqb (s .slots) 0 none)
+  slots-refused (inr many) = rw (lt-ltb slotsMost (s .slots) many, or-true)
 
-      go : (b : Bool) → slotsRefused s ≡ b → sheetTold s ≡ row 16 [] → (s .slots ≡ 0) ⊎ (slotsMost < s .slots)
-      go true fault e = facts (either (eqb (s .slots) 0) (ltb slotsMost (s .slots)) fault)
-      go false fine e = absurd (list-below (s .list) 16 [] (omega arith) (sym (slots-pass s fine) ∙ e))
+  slots-pass : Within (s .slots) slotsMost → sheetTold s ≡ listTold (s .list)
+  unfolding sheetTold
+  slots-pass within =
+      rw (ne-eqb (s .slots) 0 (omega (arith, within .low)), le-ltb slotsMost (s .slots) (within .high))
 
-      back : (s .slots ≡ 0) ⊎ (slotsMost < s .slots) → sheetTold s ≡ row 16 []
-      back (inl none) = slots-refused s (rw (eq-eqb (s .slots) 0 none))
-      back (inr many) = slots-refused s (rw (lt-ltb slotsMost (s .slots) many, or-true))
+module _ (bytes : List ℕ) (short : length bytes ≤ bytesMost) (is : IsSheet bytes) where
+  read-form : readTold bytes ≡ sheetTold (sheetOf (is .setting) (is .slots) (pushedAll (emptyList 0) (is .jobs)))
+  read-form = read-formed bytes short (sheet-fits bytes is) ∙ ap sheetTold (last-sheet bytes (is .is))
 
-  sheet-seventeen : sheetTold s ≡ row 17 [] → ⊥
-  sheet-seventeen = go (slotsRefused s) refl
-    where
-      go : (b : Bool) → slotsRefused s ≡ b → sheetTold s ≡ row 17 [] → ⊥
-      go true fault e = apart (sym (slots-refused s fault) ∙ e) refl
-      go false fine e = list-below (s .list) 17 [] (omega arith) (sym (slots-pass s fine) ∙ e)
+  read-slots : WrongCount (is .slots) → readTold bytes ≡ row 16 []
+  read-slots wrong = read-form ∙ slots-refused _ wrong
 
-  sheet-thirteen : (place : ℕ) → sheetTold s ≡ row 13 (place ∷ []) → ⊥
-  sheet-thirteen place = go (slotsRefused s) refl
-    where
-      go : (b : Bool) → slotsRefused s ≡ b → sheetTold s ≡ row 13 (place ∷ []) → ⊥
-      go true fault e = valued (sym e ∙ slots-refused s fault)
-      go false fine e = list-below (s .list) 13 (place ∷ []) (omega arith) (sym (slots-pass s fine) ∙ e)
+  read-list : Within (is .slots) slotsMost → readTold bytes ≡ listTold (formList (is .jobs))
+  read-list within = read-form ∙ slots-pass _ within ∙ pushed-told (is .jobs)
 
--- the whole read
+-- the whole read, by its tests
 module _ (bytes : List ℕ) where
+  abbrev SlotsWrong : Type 0
+  SlotsWrong = Formed bytes (λ (slots : ℕ) (jobs : List Job). WrongCount slots)
+
+  abbrev ListedAs : Type 0
+  ListedAs = Listed bytes (λ (l : JobList). readTold bytes ≡ listTold l)
+
   data ReadView : Type 0 where
-    too-long : bytesMost < length bytes → ReadView
-    formless : length bytes ≤ bytesMost → formFits bytes ≡ false → ReadView
-    formed : length bytes ≤ bytesMost → formFits bytes ≡ true → ReadView
+    too-long : bytesMost < length bytes → readTold bytes ≡ row 17 [] → ReadView
+    formless : (place : ℕ) → length bytes ≤ bytesMost → StopsAt bytes place → readTold bytes ≡ row 13 (place ∷ []) → ReadView
+    slots-wrong : SlotsWrong → readTold bytes ≡ row 16 [] → ReadView
+    listed : ListedAs → ReadView
 
   read-view : ReadView
   read-view = go (decLt bytesMost (length bytes)) (formFits bytes) refl
     where
-      go : Dec (bytesMost < length bytes) → (fits : Bool) → formFits bytes ≡ fits → ReadView
-      go (yes h) fits e = too-long h
-      go (no h) true e = formed (omega arith) e
-      go (no h) false e = formless (omega arith) e
+      by-slots : length bytes ≤ bytesMost → (is : IsSheet bytes) → Dec (0 < is .slots) → Dec (slotsMost < is .slots) → ReadView
+      by-slots short is (no none) _ =
+          let wrong : WrongCount (is .slots) = inl (omega arith) in
+          slots-wrong (record { short = short; sheet = is; fact = wrong }) (read-slots bytes short is wrong)
+      by-slots short is (yes some) (yes many) =
+          slots-wrong (record { short = short; sheet = is; fact = inr many }) (read-slots bytes short is (inr many))
+      by-slots short is (yes some) (no few) =
+          let within : Within (is .slots) slotsMost = record { low = some; high = omega arith } in
+          listed (record { short = short; sheet = is; fact = (within, read-list bytes short is within) })
 
-pub row-seventeen-exactly : RowSeventeenExactly
+      go : Dec (bytesMost < length bytes) → (fits : Bool) → formFits bytes ≡ fits → ReadView
+      go (yes long) fits e = too-long long (read-long bytes long)
+      go (no h) false e =
+          let short : length bytes ≤ bytesMost = omega arith in
+          formless (placeUpto bytes (length bytes)) short (stop-stops bytes (place-stop bytes (length bytes)) e) (read-formless bytes short e)
+      go (no h) true e =
+          let is = fits-sheet bytes e in by-slots (omega arith) is (decLt 0 (is .slots)) (decLt slotsMost (is .slots))
+
+-- rows 3 to 6, and all answers to a list
+fault-row : {j : Job} {r : ℕ} → FaultOf j r → (3 ≤ r) × (r ≤ 6)
+fault-row (t-fault _) = (omega arith, omega arith)
+fault-row (c-fault _ _) = (omega arith, omega arith)
+fault-row (k-fault _ _ _) = (omega arith, omega arith)
+fault-row (m-fault _ _ _ _) = (omega arith, omega arith)
+
+abbrev ListAnswer : Told → Type 0
+ListAnswer t = (t .number ≤ 6) × ReadAnswer t
+
+list-answer : (l : JobList) → ListAnswer (listTold l)
+list-answer l = go (list-view l)
+  where
+    go : ListView l → ListAnswer (listTold l)
+    go (no-jobs none) = rw (list-one l .1 none) (omega arith, row-one)
+    go (many-jobs many) = rw (list-two l .1 many) (omega arith, row-two)
+    go (sound-list sound) = rw (passes-exactly l .1 sound) (omega arith, passes)
+    go (faulty-list r i lowest) =
+        let rows = fault-row (lowest .fault) in rw (list-jobs l r i .1 lowest) (rows .1, job-row r i (rows .0) (rows .1))
+
+module _ (bytes : List ℕ) where
+  listed-answer : ListedAs bytes → ListAnswer (readTold bytes)
+  listed-answer f = rw (f .fact .1) (list-answer (formList (f .sheet .jobs)))
+
+  number-same : {t u : Told} → readTold bytes ≡ t → readTold bytes ≡ u → t .number ≡ u .number
+  number-same e f = ap (λ (x : Told). x .number) (sym e ∙ f)
+
+-- 17, 13, 16
+row-seventeen-exactly : (bytes : List ℕ) → (readTold bytes ≡ row 17 []) ↔ (bytesMost < length bytes)
 row-seventeen-exactly bytes = (go (read-view bytes), read-long bytes)
   where
     go : ReadView bytes → readTold bytes ≡ row 17 [] → bytesMost < length bytes
-    go (too-long h) e = h
-    go (formless h fits) e = absurd (valued (sym (read-formless bytes h fits) ∙ e))
-    go (formed h fits) e = absurd (sheet-seventeen (lastReader bytes .sheet) (sym (read-formed bytes h fits) ∙ e))
+    go (too-long long _) e = long
+    go (formless _ _ _ told) e = absurd (omega (arith, number-same bytes told e))
+    go (slots-wrong _ told) e = absurd (omega (arith, number-same bytes told e))
+    go (listed f) e = absurd (omega (arith, rw e at (listed-answer bytes f .0)))
 
-pub row-sixteen-exactly : RowSixteenExactly
-row-sixteen-exactly bytes = (
-  go (read-view bytes),
-  λ h. read-formed bytes (h .0) (sheet-fits bytes (h .1)) ∙ sheet-sixteen (lastReader bytes .sheet) .1 (h .2),
-)
-  where
-    slots : ℕ
-    slots = lastReader bytes .sheet .slots
-
-    go :
-        ReadView bytes → readTold bytes ≡ row 16 []
-        → (length bytes ≤ bytesMost) × IsSheet bytes × ((slots ≡ 0) ⊎ (slotsMost < slots))
-    go (too-long h) e = absurd (apart (sym (read-long bytes h) ∙ e) refl)
-    go (formless h fits) e = absurd (valued (sym (read-formless bytes h fits) ∙ e))
-    go (formed h fits) e =
-        (h, fits-sheet bytes fits, sheet-sixteen (lastReader bytes .sheet) .0 (sym (read-formed bytes h fits) ∙ e))
-
-pub read-thirteen-exactly : ReadThirteenExactly
-read-thirteen-exactly bytes place = (go (read-view bytes), λ h. back (h .0) (h .1))
+row-thirteen-exactly :
+    (bytes : List ℕ) (place : ℕ) → (readTold bytes ≡ row 13 (place ∷ [])) ↔ ((length bytes ≤ bytesMost) × StopsAt bytes place)
+row-thirteen-exactly bytes place = (go (read-view bytes), back)
   where
     go : ReadView bytes → readTold bytes ≡ row 13 (place ∷ []) → (length bytes ≤ bytesMost) × StopsAt bytes place
-    go (too-long h) e = absurd (apart (sym (read-long bytes h) ∙ e) refl)
-    go (formless h fits) e =
-        (h, row-thirteen-exactly bytes place .0 (form-refused bytes fits ∙ sym (read-formless bytes h fits) ∙ e))
-    go (formed h fits) e = absurd (sheet-thirteen (lastReader bytes .sheet) place (sym (read-formed bytes h fits) ∙ e))
+    go (too-long _ told) e = absurd (omega (arith, number-same bytes told e))
+    go (formless at short stops told) e =
+        (short, subst (StopsAt bytes) (ap (λ (t : Told). getD (t .values) 0 0) (sym told ∙ e)) stops)
+    go (slots-wrong _ told) e = absurd (omega (arith, number-same bytes told e))
+    go (listed f) e = absurd (omega (arith, rw e at (listed-answer bytes f .0)))
 
-    back : length bytes ≤ bytesMost → StopsAt bytes place → readTold bytes ≡ row 13 (place ∷ [])
-    back h at =
-        let fits = stops-refused bytes at in
-        read-formless bytes h fits ∙ sym (form-refused bytes fits) ∙ row-thirteen-exactly bytes place .1 at
+    back : (length bytes ≤ bytesMost) × StopsAt bytes place → readTold bytes ≡ row 13 (place ∷ [])
+    back h =
+        read-formless bytes (h .0) (stops-refused bytes (h .1))
+        ∙ ap (λ (p : ℕ). row 13 (p ∷ [])) (place-is bytes (stops-stop bytes (h .1)))
+
+row-sixteen-exactly : (bytes : List ℕ) → (readTold bytes ≡ row 16 []) ↔ SlotsWrong bytes
+row-sixteen-exactly bytes = (go (read-view bytes), λ f. read-slots bytes (f .short) (f .sheet) (f .fact))
+  where
+    go : ReadView bytes → readTold bytes ≡ row 16 [] → SlotsWrong bytes
+    go (too-long _ told) e = absurd (omega (arith, number-same bytes told e))
+    go (formless _ _ _ told) e = absurd (omega (arith, number-same bytes told e))
+    go (slots-wrong f _) e = f
+    go (listed f) e = absurd (omega (arith, rw e at (listed-answer bytes f .0)))
+
+-- 1 to 6, and none: what the check of the form's list answers
+list-exactly :
+    (bytes : List ℕ) (t : Told) (Fact : JobList → Type 0) → t .number ≤ 6 → ((l : JobList) → (listTold l ≡ t) ↔ Fact l)
+    → (readTold bytes ≡ t) ↔ Listed bytes Fact
+list-exactly bytes t Fact low exactly = (go (read-view bytes), back)
+  where
+    go : ReadView bytes → readTold bytes ≡ t → Listed bytes Fact
+    go (too-long _ told) e = absurd (omega (arith, number-same bytes told e))
+    go (formless _ _ _ told) e = absurd (omega (arith, number-same bytes told e))
+    go (slots-wrong _ told) e = absurd (omega (arith, number-same bytes told e))
+    go (listed f) e =
+        record {
+          short = f .short;
+          sheet = f .sheet;
+          fact = (f .fact .0, exactly (formList (f .sheet .jobs)) .0 (sym (f .fact .1) ∙ e));
+        }
+
+    back : Listed bytes Fact → readTold bytes ≡ t
+    back f =
+        read-list bytes (f .short) (f .sheet) (f .fact .0) ∙ exactly (formList (f .sheet .jobs)) .1 (f .fact .1)
+
+row-one-exactly : (bytes : List ℕ) → (readTold bytes ≡ row 1 []) ↔ Listed bytes (λ (l : JobList). l .count ≡ 0)
+row-one-exactly bytes = list-exactly bytes (row 1 []) (λ (l : JobList). l .count ≡ 0) (omega arith) list-one
+
+row-two-exactly : (bytes : List ℕ) → (readTold bytes ≡ row 2 []) ↔ Listed bytes (λ (l : JobList). countMost < l .count)
+row-two-exactly bytes = list-exactly bytes (row 2 []) (λ (l : JobList). countMost < l .count) (omega arith) list-two
+
+job-rows-exactly :
+    (bytes : List ℕ) (n i : ℕ) → n ≤ 6 → (readTold bytes ≡ row n (i ∷ [])) ↔ Listed bytes (λ (l : JobList). LowestFault l n i)
+job-rows-exactly bytes n i low =
+    list-exactly bytes (row n (i ∷ [])) (λ (l : JobList). LowestFault l n i) low (λ l. list-jobs l n i)
+
+read-passes-exactly : (bytes : List ℕ) → (readTold bytes ≡ passed) ↔ Listed bytes SoundList
+read-passes-exactly bytes = list-exactly bytes passed SoundList (omega arith) passes-exactly
+
+no-other-row : (bytes : List ℕ) → ReadAnswer (readTold bytes)
+no-other-row bytes = go (read-view bytes)
+  where
+    go : ReadView bytes → ReadAnswer (readTold bytes)
+    go (too-long _ told) = rw told row-seventeen
+    go (formless place _ _ told) = rw told (row-thirteen place)
+    go (slots-wrong _ told) = rw told row-sixteen
+    go (listed f) = listed-answer bytes f .1
+
+-- the sheet beside the answer
+values-read :
+    (bytes : List ℕ) (s : Setting) (slots : ℕ) (jobs : List Job) → SheetOf bytes s slots jobs → readTold bytes ≡ passed
+    → Returned (readSheet bytes) s slots jobs
+values-read bytes s slots jobs is e =
+    let f = read-passes-exactly bytes .0 e in
+    let same = values-determined bytes s (f .sheet .setting) slots (f .sheet .slots) jobs (f .sheet .jobs) is (f .sheet .is) .2 in
+    let few : length jobs ≤ countMost = rw same (f .fact .1 .count .high) in
+    let kept = all-kept jobs few in
+    subst (λ (sheet : Sheet). Returned sheet s slots jobs) (sym (last-sheet bytes is) ∙ passed-sheet bytes e)
+    (record {
+      setting-is = refl;
+      slots-is = refl;
+      count-is = ap (λ (l : JobList). l .count) kept;
+      jobs-are = ap (λ (l : JobList). l .jobs) kept;
+    })
+
+blank-is-zeros : AllZeros blankSheet
+blank-is-zeros = record { order = refl; model = refl; slots = refl; count = refl; jobs = refl }
+
+refuses : {t : Told} → ReadAnswer t → ¬ (t ≡ passed) → eqb (t .number) 0 ≡ false
+refuses passes never = absurd (never refl)
+refuses row-one never = refl
+refuses row-two never = refl
+refuses (job-row n i low high) never = ne-eqb n 0 (omega arith)
+refuses (row-thirteen place) never = refl
+refuses row-sixteen never = refl
+refuses row-seventeen never = refl
+
+refused-blank : (bytes : List ℕ) → ¬ (readTold bytes ≡ passed) → AllZeros (readSheet bytes)
+unfolding readSheet
+refused-blank bytes never = rw (refuses (no-other-row bytes) never) blank-is-zeros
+
+-- the statements, of whatever result the promises allow
+pub blank-zeros : BlankZeros
+blank-zeros r promise = subst AllZeros (sym promise) blank-is-zeros
+
+read-told : (bytes : List ℕ) → ReadTold bytes (readTold bytes) (readSheet bytes)
+read-told bytes =
+    record {
+      seventeen = row-seventeen-exactly bytes;
+      thirteen = row-thirteen-exactly bytes;
+      sixteen = row-sixteen-exactly bytes;
+      one = row-one-exactly bytes;
+      two = row-two-exactly bytes;
+      of-job = job-rows-exactly bytes;
+      passing = read-passes-exactly bytes;
+      no-other = no-other-row bytes;
+      values = values-read bytes;
+      refused = refused-blank bytes;
+    }
+
+pub reads-exactly : ReadsExactly
+reads-exactly bytes r promise = rw (promise .0, promise .1) (read-told bytes)

@@ -1,18 +1,23 @@
--- A list with jobs pushed to its end: the count is their number, and the first sixteen are in their places.
-use mathlib.Core.Path.{_≡_, refl, _∙_}
-use mathlib.Core.List.{List, [], _∷_}
-use Prim.Native.Nat.{ℕ, zero, suc, _+_, _≤_, _<_}
+-- A list with jobs pushed to its end: the count is their number; up to sixteen stand in their places, with zeros behind them; and the check
+-- answers it as it answers the jobs themselves.
+use mathlib.Core.Path.{_≡_, refl, sym, _∙_, ap}
+use mathlib.Core.List.{List, [], _∷_, _++_, append-nil}
+use Prim.Native.Nat.{ℕ, zero, suc, _+_, _-_, _≤_, _<_}
+use native.Mathlib.Nat.{sub-zero, suc-sub-suc}
+use native.Mathlib.Decide.{decLt}
 use native.Mathlib.Omega.{arith}
-use lib.Dec.{ltb}
-use lib.ListN.{length, length-set}
-use lib.Seq.{getD-set-same, getD-set-other}
-use borrow.Author.Tests.{ltb-false}
+use lib.ListN.{length, replicate, length-append, List·getD-append}
+use lib.Seq.{append-snoc, set-append-seam}
+use borrow.Author.Tests.{lt-ltb}
 use Rattle.job.specs.declared.record.Job.{Job}
 use Rattle.job.specs.declared.list.JobList.{JobList}
 use Rattle.job.specs.Limit.{countMost}
-use Rattle.job.specs.Check.{noJob, jobAt}
+use Rattle.job.specs.Check.{noJob, listTold}
+use Rattle.job.specs.Filled.{emptyList}
+use Rattle.job.proofs.Meaning.{row-two-exactly}
+use Rattle.job.proofs.AlikeLaws.{list-alike}
+use Rattle.sheet.specs.Form.{formList}
 use Rattle.sheet.specs.Reader.{pushedOf}
-use Rattle.place.proofs.CondLaws.{by-test}
 
 unfoldable pub pushedAll : JobList → List Job → JobList
 pushedAll l [] = l
@@ -23,52 +28,47 @@ unfoldable pub lastJob : Job → List Job → Job
 lastJob job [] = job
 lastJob job (j ∷ jobs) = lastJob j jobs
 
--- one job more
-module _ (l : JobList) (j : Job) where
-  pushed-count : pushedOf l j .count ≡ l .count + 1
-  unfolding pushedOf
-  pushed-count = refl
-
-  pushed-length : length (pushedOf l j .jobs) ≡ length (l .jobs)
-  unfolding pushedOf
-  pushed-length =
-      by-test (λ (jobs : List Job). length jobs ≡ length (l .jobs)) (ltb (l .count) countMost)
-      (λ room. length-set (l .jobs) (l .count) j)
-      (λ full. refl)
-
-  pushed-before : (i : ℕ) → i < l .count → jobAt (pushedOf l j .jobs) i ≡ jobAt (l .jobs) i
-  unfolding pushedOf
-  pushed-before i h =
-      by-test (λ (jobs : List Job). jobAt jobs i ≡ jobAt (l .jobs) i) (ltb (l .count) countMost)
-      (λ room. getD-set-other (l .jobs) (l .count) i j noJob (omega arith))
-      (λ full. refl)
-
-  pushed-at : l .count < countMost → countMost ≤ length (l .jobs) → jobAt (pushedOf l j .jobs) (l .count) ≡ j
-  unfolding pushedOf
-  pushed-at room long =
-      by-test (λ (jobs : List Job). jobAt jobs (l .count) ≡ j) (ltb (l .count) countMost)
-      (λ e. getD-set-same (l .jobs) (l .count) j noJob (omega arith))
-      (λ full. absurd (omega (arith, ltb-false (l .count) countMost full)))
-
--- all of them
-pub all-count : (l : JobList) (jobs : List Job) → pushedAll l jobs .count ≡ l .count + length jobs
-unfolding pushedAll
+all-count : (l : JobList) (jobs : List Job) → pushedAll l jobs .count ≡ l .count + length jobs
+unfolding pushedAll pushedOf
 all-count l [] = omega arith
-all-count l (j ∷ jobs) = omega (arith, all-count (pushedOf l j) jobs, pushed-count l j)
+all-count l (j ∷ jobs) = omega (arith, all-count (pushedOf l j) jobs)
 
-all-before : (l : JobList) (jobs : List Job) (i : ℕ) → i < l .count → jobAt (pushedAll l jobs .jobs) i ≡ jobAt (l .jobs) i
-unfolding pushedAll
-all-before l [] i h = refl
-all-before l (j ∷ jobs) i h =
-    all-before (pushedOf l j) jobs i (omega (arith, pushed-count l j)) ∙ pushed-before l j i h
+-- jobs from the first record on, and n records of zeros behind them
+abbrev padded : List Job → ℕ → JobList
+padded jobs n = record { jobs = jobs ++ replicate n noJob; count = length jobs }
 
-pub all-at :
-    (l : JobList) (jobs : List Job) (n i : ℕ) → countMost ≤ length (l .jobs) → i < length jobs → l .count + i ≡ n → n < countMost
-    → jobAt (pushedAll l jobs .jobs) n ≡ jobAt jobs i
+pushed-padded :
+    (before : List Job) (j : Job) (n : ℕ) → length before < countMost
+    → pushedOf (padded before (suc n)) j ≡ padded (before ++ (j ∷ [])) n
+unfolding pushedOf
+pushed-padded before j n room =
+    let stored = set-append-seam before noJob (replicate n noJob) j ∙ sym (append-snoc before j (replicate n noJob)) in
+    rw (lt-ltb (length before) countMost room)
+    (λ i. record { jobs = stored i; count = sym (length-append before (j ∷ [])) i })
+
+all-padded :
+    (before jobs : List Job) (n : ℕ) → length before + n ≡ countMost → length jobs ≤ n
+    → pushedAll (padded before n) jobs ≡ padded (before ++ jobs) (n - length jobs)
 unfolding pushedAll
-all-at l [] n i long h at few = absurd (omega arith)
-all-at l (j ∷ jobs) n zero long h at few =
-    let here : n ≡ l .count = omega arith in
-    rw here (all-before (pushedOf l j) jobs (l .count) (omega (arith, pushed-count l j)) ∙ pushed-at l j (omega arith) long)
-all-at l (j ∷ jobs) n (suc i) long h at few =
-    all-at (pushedOf l j) jobs n i (omega (arith, pushed-length l j)) (omega arith) (omega (arith, pushed-count l j)) few
+all-padded before [] n room few = rw (append-nil before, sub-zero n)
+all-padded before (j ∷ jobs) zero room few = absurd (omega arith)
+all-padded before (j ∷ jobs) (suc n) room few =
+    ap (λ (l : JobList). pushedAll l jobs) (pushed-padded before j n (omega arith))
+    ∙ all-padded (before ++ (j ∷ [])) jobs n (omega (arith, length-append before (j ∷ []))) (omega arith)
+    ∙ rw (append-snoc before j jobs, suc-sub-suc n (length jobs))
+
+pub all-kept : (jobs : List Job) → length jobs ≤ countMost → pushedAll (emptyList 0) jobs ≡ padded jobs (countMost - length jobs)
+all-kept jobs few = all-padded [] jobs countMost refl few
+
+-- the check reads no record behind the jobs
+rest-told : (jobs rest : List Job) → listTold (record { jobs = jobs ++ rest; count = length jobs }) ≡ listTold (formList jobs)
+rest-told jobs rest = list-alike (jobs ++ rest) jobs (length jobs) (λ i h. List·getD-append jobs rest noJob i (omega arith))
+
+pub pushed-told : (jobs : List Job) → listTold (pushedAll (emptyList 0) jobs) ≡ listTold (formList jobs)
+pushed-told jobs = go (decLt countMost (length jobs))
+  where
+    go : Dec (countMost < length jobs) → listTold (pushedAll (emptyList 0) jobs) ≡ listTold (formList jobs)
+    go (yes many) =
+        row-two-exactly (pushedAll (emptyList 0) jobs) .1 (omega (arith, all-count (emptyList 0) jobs))
+        ∙ sym (row-two-exactly (formList jobs) .1 many)
+    go (no few) = ap listTold (all-kept jobs (omega arith)) ∙ rest-told jobs (replicate (countMost - length jobs) noJob)

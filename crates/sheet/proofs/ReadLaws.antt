@@ -1,43 +1,33 @@
 -- How a read is told: by its length, by its form, and by what the sheet holds; and what stands beside it.
 use mathlib.Core.Path.{_≡_, sym, _∙_, ap}
-use mathlib.Core.Bool.{Bool, true, false, _||_}
+use mathlib.Core.Bool.{true, false}
 use mathlib.Core.List.{List, [], _∷_}
 use Prim.Native.Nat.{ℕ, _≤_, _<_}
-use lib.Dec.{eqb, ltb}
+use lib.Dec.{eqb}
 use lib.ListN.{length}
 use borrow.Author.Tests.{lt-ltb, le-ltb}
 use Rattle.job.specs.declared.refusal.Refusal.{Refusal}
 use Rattle.job.specs.declared.refusal.Checked.{Checked}
 use Rattle.job.specs.declared.refusal.Checked.the-variants.{Refused}
 use Rattle.job.specs.Told.{Told, row, passed, told, toldChecked}
-use Rattle.job.specs.Check.{otherwise, listTold}
+use Rattle.job.specs.Check.{otherwise}
 use Rattle.job.proofs.ToldLaws.{told-refuses}
 use Rattle.job.proofs.CheckLaws.{otherwise-passed, otherwise-refused}
 use Rattle.sheet.specs.declared.reading.Sheet.{Sheet}
-use Rattle.sheet.specs.Sheet.{bytesMost, slotsMost, blankSheet, sheetTold}
+use Rattle.sheet.specs.Form.{bytesMost}
+use Rattle.sheet.specs.Sheet.{blankSheet, sheetTold}
 use Rattle.sheet.specs.Reader.{placeUpto}
 use Rattle.sheet.specs.Answer.{lastReader, formTold, readTold, readSheet}
+use Rattle.sheet.specs.Promise.{ReadPromise}
 use Rattle.sheet.proofs.UptoLaws.{formFits}
-
--- what the sheet holds
-abbrev pub slotsRefused : Sheet → Bool
-slotsRefused s = eqb (s .slots) 0 || ltb slotsMost (s .slots)
-
-pub slots-refused : (s : Sheet) → slotsRefused s ≡ true → sheetTold s ≡ row 16 []
-unfolding sheetTold
-slots-refused s e = rw e
-
-pub slots-pass : (s : Sheet) → slotsRefused s ≡ false → sheetTold s ≡ listTold (s .list)
-unfolding sheetTold
-slots-pass s e = rw e
 
 module _ (bytes : List ℕ) where
   -- the form
-  pub form-passes : formFits bytes ≡ true → formTold bytes ≡ passed
+  form-passes : formFits bytes ≡ true → formTold bytes ≡ passed
   unfolding formTold
   form-passes e = rw e
 
-  pub form-refused : formFits bytes ≡ false → formTold bytes ≡ row 13 (placeUpto bytes (length bytes) ∷ [])
+  form-refused : formFits bytes ≡ false → formTold bytes ≡ row 13 (placeUpto bytes (length bytes) ∷ [])
   unfolding formTold
   form-refused e = rw e
 
@@ -62,12 +52,9 @@ module _ (bytes : List ℕ) where
         ∙ refused
 
   -- an answer and the sheet beside it
-  abbrev Answers : Checked → Sheet → Type 0
-  Answers answer sheet = (toldChecked answer ≡ readTold bytes) × (sheet ≡ readSheet bytes)
-
   pub refused-answers :
       {answer : Checked} {sheet : Sheet} (refusal : Refusal) → (answer ≡ Refused refusal) × (sheet ≡ blankSheet)
-      → readTold bytes ≡ told refusal → Answers answer sheet
+      → readTold bytes ≡ told refusal → ReadPromise bytes (record { answer = answer; sheet = sheet })
   unfolding readSheet
   refused-answers refusal is e =
       let number = ap (λ (t : Told). eqb (t .number) 0) e ∙ told-refuses refusal in

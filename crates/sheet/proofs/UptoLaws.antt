@@ -7,12 +7,17 @@ use native.Mathlib.Decide.{decLt, le-ind}
 use native.Mathlib.Omega.{arith}
 use lib.ListN.{length, take}
 use lib.Seq.{take-suc, take-length}
-use Rattle.sheet.specs.Form.{IsSheet, Begins}
-use Rattle.sheet.specs.Reader.{byteAt, startReader, fitsOf, betweenLines, readerUpto, fitsUpto, placeUpto}
+use Rattle.job.specs.declared.record.Job.{Job}
+use Rattle.job.specs.Filled.{emptyList}
+use Rattle.place.specs.declared.setting.Setting.{Setting}
+use Rattle.sheet.specs.declared.reader.Reader.{Reader}
+use Rattle.sheet.specs.Form.{SheetOf, IsSheet, Begins}
+use Rattle.sheet.specs.Reader.{byteAt, startReader, fitsOf, sheetOf, betweenLines, readerUpto, fitsUpto, placeUpto}
 use Rattle.sheet.specs.Answer.{lastReader}
 use Rattle.job.proofs.TestLaws.{both, clash}
 use Rattle.place.proofs.CondLaws.{by-test}
 use Rattle.sheet.proofs.RunLaws.{runFrom, fitsFrom, front-fits, upto-run, upto-fits}
+use Rattle.sheet.proofs.PushedLaws.{pushedAll}
 use Rattle.sheet.proofs.CompleteLaws.{sheet-run}
 use Rattle.sheet.proofs.HoldsLaws.{Holds, holds-start, holds-more, holds-sheet}
 use Rattle.sheet.proofs.BeginsLaws.{holds-begins}
@@ -34,8 +39,13 @@ module _ (bytes : List ℕ) where
       ∙ front-fits startReader (take n bytes) (begins .rest) (sheet-run (begins .sheet .is) .fits)
 
   -- the whole of the bytes
-  pub last-run : lastReader bytes ≡ runFrom startReader bytes
+  last-run : lastReader bytes ≡ runFrom startReader bytes
   last-run = upto-run bytes (length bytes) (omega arith) ∙ ap (runFrom startReader) (take-length bytes)
+
+  pub last-sheet :
+      {s : Setting} {slots : ℕ} {jobs : List Job} → SheetOf bytes s slots jobs
+      → lastReader bytes .sheet ≡ sheetOf s slots (pushedAll (emptyList 0) jobs)
+  last-sheet is = ap (λ (r : Reader). r .sheet) (last-run ∙ sheet-run is .ends)
 
   abbrev pub formFits : Bool
   formFits = fitsUpto bytes (length bytes) && betweenLines (lastReader bytes)

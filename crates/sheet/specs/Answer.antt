@@ -8,7 +8,8 @@ use Rattle.job.specs.Told.{Told, row, passed}
 use Rattle.job.specs.Check.{otherwise}
 use Rattle.sheet.specs.declared.reading.Sheet.{Sheet}
 use Rattle.sheet.specs.declared.reader.Reader.{Reader}
-use Rattle.sheet.specs.Sheet.{bytesMost, blankSheet, sheetTold}
+use Rattle.sheet.specs.Form.{bytesMost}
+use Rattle.sheet.specs.Sheet.{blankSheet, sheetTold}
 use Rattle.sheet.specs.Reader.{betweenLines, readerUpto, fitsUpto, placeUpto}
 
 -- the reader at the end of the bytes

@@ -1,4 +1,4 @@
--- The form of a sheet, as text that its values make: no reader is mentioned.
+-- The form of a sheet, as text that its values make, and the limits of a read: no reader is mentioned.
 use Prim.Native.Nat.{ℕ, _≤_, _<_}
 use mathlib.Core.Path.{_≡_}
 use mathlib.Core.Bool.{cond}
@@ -6,6 +6,7 @@ use mathlib.Core.List.{List, [], _∷_, _++_}
 use lib.Dec.{eqb}
 use lib.ListN.{length}
 use Rattle.job.specs.declared.record.Job.{Job}
+use Rattle.job.specs.declared.list.JobList.{JobList}
 use Rattle.job.specs.Limit.{relaxed, original}
 use Rattle.job.specs.Check.{jobAt}
 use Rattle.text.specs.Ascii.{ascii}
@@ -16,6 +17,13 @@ use Rattle.place.specs.Setting.{orderV, orderW}
 -- 'Numbers are 0 or up to 5 digits with no leading zero.'
 abbrev pub numberMost : ℕ
 numberMost = 99999
+
+-- 'sheet over 4,096 bytes' and 'slot count 0 or above 4,096' are refused
+abbrev pub bytesMost : ℕ
+bytesMost = 4096
+
+abbrev pub slotsMost : ℕ
+slotsMost = 4096
 
 -- 'First line: V or W, R (relaxed) or O (original), slot count'
 abbrev pub orderLetter : ℕ → List ℕ
@@ -39,6 +47,10 @@ jobLine j =
 unfoldable pub jobLines : List Job → List ℕ
 jobLines [] = []
 jobLines (j ∷ jobs) = jobLine j ++ jobLines jobs
+
+-- the jobs of these lines, and how many they are
+abbrev pub formList : List Job → JobList
+formList jobs = record { jobs = jobs; count = length jobs }
 
 pub record SmallJob (j : Job) : Type 0 where
   pub c : j .c ≤ numberMost

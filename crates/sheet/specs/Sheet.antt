@@ -1,5 +1,4 @@
 -- What a sheet holds once read, and its own tests: 16, then 1 to 6.
-use Prim.Native.Nat.{ℕ}
 use mathlib.Core.Bool.{_||_, cond}
 use mathlib.Core.List.{[]}
 use lib.Dec.{ltb, eqb}
@@ -7,12 +6,7 @@ use Rattle.job.specs.Told.{Told, row}
 use Rattle.job.specs.Check.{listTold}
 use Rattle.job.specs.Filled.{emptyList}
 use Rattle.sheet.specs.declared.reading.Sheet.{Sheet}
-
-abbrev pub bytesMost : ℕ
-bytesMost = 4096
-
-abbrev pub slotsMost : ℕ
-slotsMost = 4096
+use Rattle.sheet.specs.Form.{slotsMost}
 
 abbrev pub blankSheet : Sheet
 blankSheet =

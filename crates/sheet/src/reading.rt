@@ -2,7 +2,7 @@
 ghost use mathlib.Core.Path.{_≡_};
 ghost use Rattle.job.specs.Told.{toldChecked};
 ghost use Rattle.sheet.specs.Sheet.{blankSheet, sheetTold};
-ghost use Rattle.sheet.specs.Answer.{readTold, readSheet};
+ghost use Rattle.sheet.specs.Promise.{BlankPromise, ReadPromise};
 use crate::reader::Reader;
 use job::Checked;
 use job::JobList;
@@ -28,7 +28,7 @@ impl Sheet {
 
     // The sheet of all zeros, which stands beside a refusal.
     pub fn blank() -> Sheet
-        ensures { λ r. ⌜ r ≡ blankSheet ⌝ }
+        ensures { λ r. ⌜ BlankPromise r ⌝ }
     {
         Sheet {
             setting: Setting { order: 0, model: 0 },
@@ -62,8 +62,7 @@ fn check(sheet: Sheet) -> Checked
 }
 
 pub fn read(bytes: &[u8]) -> ReadSheet
-    ensures { λ r. ⌜ toldChecked (r .answer) ≡ readTold (now (bytes .entry)) ⌝ }
-    ensures { λ r. ⌜ r .sheet ≡ readSheet (now (bytes .entry)) ⌝ }
+    ensures { λ r. ⌜ ReadPromise (now (bytes .entry)) r ⌝ }
 {
     if Sheet::BYTES_MOST < bytes.len() {
         return refused(Refusal::SheetTooLong);

@@ -1,5 +1,5 @@
 -- Laws beside the functions' own proofs.
 pub mod WrittenLaws
-pub mod WrittenAt
+pub mod WrittenParts
 pub mod DecimalLaws
 pub mod PrintLaws

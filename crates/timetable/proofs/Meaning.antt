@@ -1,28 +1,30 @@
 -- The statements of specs/Meaning about a timetable.
-use mathlib.Core.Path.{_≡_, refl, sym, ap, subst, _∙_}
+use mathlib.Core.Path.{_≡_, refl, sym, ap, ap₂, subst, _∙_}
 use mathlib.Core.Bool.{Bool, true, false, cond}
+use mathlib.Core.Logic.{_↔_}
 use mathlib.Core.List.{List, []}
 use Prim.Native.Nat.{ℕ, _+_, _≤_, _<_}
 use native.Mathlib.Omega.{arith}
 use lib.Dec.{leb, eqb}
-use lib.ListN.{length}
+use lib.ListN.{length, take, drop}
 use borrow.Author.Tests.{leb-true, leb-false}
-use Rattle.job.specs.Told.{Told, row, passed}
+use Rattle.job.specs.declared.refusal.Checked.the-variants.{Passed}
+use Rattle.job.specs.Told.{Told, row, passed, toldChecked}
+use Rattle.job.proofs.ToldLaws.{checked-one-to-one}
 use Rattle.job.proofs.TestLaws.{clash}
 use Rattle.run.specs.declared.state.State.{State}
-use Rattle.run.specs.State.{clockMost, freshOf}
+use Rattle.run.specs.State.{clockMost}
 use Rattle.run.specs.Range.{stateInRange}
 use Rattle.run.specs.Sound.{SoundState}
 use Rattle.run.specs.Run.{afterSlots, choicesOf}
 use Rattle.run.proofs.RangeLaws.{range-exactly}
-use Rattle.run.proofs.FreshLaws.{fresh-sound}
-use Rattle.run.proofs.RunHistory.{history-holds}
+use Rattle.run.proofs.CallLaws.{answersOf, answers-long, steps-slots, steps-exist}
 use Rattle.text.specs.Written.{written}
 use Rattle.text.proofs.WrittenLaws.{written-none, written-length, written-twice as text-twice}
-use Rattle.text.proofs.WrittenAt.{written-inside, written-before, written-behind}
+use Rattle.text.proofs.WrittenParts.{written-part, written-front, written-rest}
 use Rattle.run.proofs.RunLaws.{after-add, choices-add, choices-long, after-clock, after-sound}
 use Rattle.timetable.specs.Table.{writeTold, writes, writeState, writeBytes}
-use Rattle.timetable.specs.Meaning.{Room, RowTenExactly, RowTwelveExactly, RowElevenExactly, WritesExactly, NoneWritten, WrittenTwice, BytesWritten, TableHistory}
+use Rattle.timetable.specs.Meaning.{Room, WritesSteps, WriteAnswers, WrittenTwice}
 
 -- how a call ends
 data WriteView (s : State) (len offset n : ℕ) : Told → Type 0 where
@@ -77,7 +79,7 @@ module _ (s : State) (len offset n : ℕ) where
       go x (past-clock sound h c) = clock sound h c
       go x (writes-on room) = written (room .sound) (λ h. let f = room .fits in omega arith) (λ h. let f = room .clock in omega arith)
 
-pub row-ten-exactly : RowTenExactly
+row-ten-exactly : (s : State) (len offset n : ℕ) → (writeTold s len offset n ≡ row 10 []) ↔ (SoundState s → ⊥)
 row-ten-exactly s len offset n = (
   says s len offset n,
   λ h.
@@ -86,7 +88,8 @@ row-ten-exactly s len offset n = (
       (λ sound _ _. absurd (h sound))),
 )
 
-pub row-twelve-exactly : RowTwelveExactly
+row-twelve-exactly :
+    (s : State) (len offset n : ℕ) → (writeTold s len offset n ≡ row 12 []) ↔ (SoundState s × (len < offset + n))
 row-twelve-exactly s len offset n = (
   says s len offset n,
   λ h.
@@ -95,7 +98,9 @@ row-twelve-exactly s len offset n = (
       (λ _ room _. absurd (let f = h .1 in omega arith))),
 )
 
-pub row-eleven-exactly : RowElevenExactly
+row-eleven-exactly :
+    (s : State) (len offset n : ℕ)
+    → (writeTold s len offset n ≡ row 11 []) ↔ (SoundState s × (offset + n ≤ len) × (clockMost < s .clock + n))
 row-eleven-exactly s len offset n = (
   says s len offset n,
   λ h.
@@ -104,7 +109,7 @@ row-eleven-exactly s len offset n = (
       (λ out. absurd (out (h .0))) (λ _ _ _. refl)),
 )
 
-pub writes-exactly : WritesExactly
+pub writes-exactly : (s : State) (len offset n : ℕ) → (writeTold s len offset n ≡ passed) ↔ Room s len offset n
 writes-exactly s len offset n = (
   says s len offset n,
   λ room.
@@ -126,7 +131,8 @@ module _ (s : State) (bytes : List ℕ) (offset n : ℕ) (room : Room s (length 
   unfolding writeBytes
   bytes-are = rw told
 
-pub none-written : NoneWritten
+none-written :
+    (s : State) (bytes : List ℕ) (offset : ℕ) → (writeState s (length bytes) offset 0 ≡ s) × (writeBytes s bytes offset 0 ≡ bytes)
 unfolding writeState writeBytes afterSlots choicesOf
 none-written s bytes offset = (state (writes s (length bytes) offset 0), text (writes s (length bytes) offset 0))
   where
@@ -179,27 +185,91 @@ module _ (s : State) (bytes : List ℕ) (offset n m : ℕ) (room : Room s (lengt
       ∙ ap (written bytes offset) (sym (choices-add s n m))
       ∙ sym (bytes-are s bytes offset (n + m) room)
 
-pub written-twice : WrittenTwice
-written-twice s bytes offset n m room =
+twice :
+    (s : State) (bytes : List ℕ) (offset n m : ℕ) → Room s (length bytes) offset (n + m)
+    → let next = writeState s (length bytes) offset n in
+    let half = writeBytes s bytes offset n in
+    (writeState next (length half) (offset + n) m ≡ writeState s (length bytes) offset (n + m))
+    × (writeBytes next half (offset + n) m ≡ writeBytes s bytes offset (n + m))
+twice s bytes offset n m room =
     let half = writeBytes s bytes offset n in
     let next = state-written s bytes offset n (first-room s bytes offset n m room) in (
       ap (λ (x : State). writeState x (length half) (offset + n) m) next ∙ twice-state s bytes offset n m room,
       ap (λ (x : State). writeBytes x half (offset + n) m) next ∙ twice-bytes s bytes offset n m room,
     )
 
-pub table-history : TableHistory
-table-history l setting bytes offset n sound allowed fits clock =
-    let room : Room (freshOf l setting) (length bytes) offset n =
-    record { sound = fresh-sound l setting sound allowed; fits = fits; clock = omega arith } in
-    rw (state-written (freshOf l setting) bytes offset n room) (history-holds l setting sound allowed n clock)
+refused-keeps :
+    (s : State) (bytes : List ℕ) (offset n : ℕ) → (writeTold s (length bytes) offset n ≡ passed → ⊥)
+    → (writeState s (length bytes) offset n ≡ s) × (writeBytes s bytes offset n ≡ bytes)
+unfolding writeState writeBytes
+refused-keeps s bytes offset n refused =
+    let number : writes s (length bytes) offset n ≡ false = go (writeTold s (length bytes) offset n) (write-view s (length bytes) offset n) refused in
+    (rw number, rw number)
+  where
+    go : (t : Told) → WriteView s (length bytes) offset n t → (t ≡ passed → ⊥) → eqb (t .number) 0 ≡ false
+    go t (out-of-range broken) other = refl
+    go t (too-short sound short) other = refl
+    go t (past-clock sound fits clock) other = refl
+    go t (writes-on room) other = absurd (other refl)
 
-pub bytes-written : BytesWritten
-bytes-written s bytes offset n room =
+pub choices-written :
+    (s : State) (bytes : List ℕ) (offset n : ℕ) → Room s (length bytes) offset n
+    → WritesSteps s bytes offset n (writeState s (length bytes) offset n) (writeBytes s bytes offset n)
+choices-written s bytes offset n room =
     let new = choicesOf s n in
     let fits : offset + length new ≤ length bytes = let f = room .fits in omega (arith, choices-long s n) in
-    rw (bytes-are s bytes offset n room) (
-      written-length bytes offset new fits,
-      λ i h. written-inside bytes offset new fits i (omega (arith, choices-long s n)),
-      written-before bytes offset new fits,
-      λ i h. written-behind bytes offset new fits i (omega (arith, choices-long s n)),
+    let steps = steps-exist n s (room .sound) (room .clock) in
+    let made = steps-slots steps in
+    let count = answers-long s n in
+    let after : writeBytes s bytes offset n ≡ written bytes offset new = bytes-are s bytes offset n room in
+    record {
+      slots = answersOf s n;
+      long = count;
+      steps = rw (state-written s bytes offset n room) steps;
+      choices =
+          ap (λ (x : List ℕ). take n (drop offset x)) after
+          ∙ ap (λ (k : ℕ). take k (drop offset (written bytes offset new))) (sym (choices-long s n))
+          ∙ written-part bytes offset new fits
+          ∙ ap (choicesOf s) (sym count)
+          ∙ sym (made .bytes-are);
+      stays =
+          rw after
+          (record {
+            long = written-length bytes offset new fits;
+            front = written-front bytes offset new fits;
+            behind = ap (λ (k : ℕ). drop (offset + k) (written bytes offset new)) (sym (choices-long s n)) ∙ written-rest bytes offset new fits ∙ ap (λ (k : ℕ). drop (offset + k) bytes) (choices-long s n);
+          });
+    }
+
+pub write-answers : WriteAnswers
+write-answers s before offset n r after promise =
+    let len = length before in
+    let exactly = writes-exactly s len offset n in
+    let told : r .answer ≡ Passed → writeTold s len offset n ≡ passed = λ p. sym (promise .0) ∙ ap toldChecked p in
+    let passes : writeTold s len offset n ≡ passed → r .answer ≡ Passed = λ e. checked-one-to-one (r .answer) Passed (promise .0 ∙ e) in
+    let as-made : (writeState s len offset n ≡ s) × (writeBytes s before offset n ≡ before) → (r .state ≡ s) × (after ≡ before) =
+    λ h. (promise .1 ∙ h .0, promise .2 ∙ h .1) in
+    record {
+      row-ten = rw (promise .0) (row-ten-exactly s len offset n);
+      row-twelve = rw (promise .0) (row-twelve-exactly s len offset n);
+      row-eleven = rw (promise .0) (row-eleven-exactly s len offset n);
+      passes = (λ p. exactly .0 (told p), λ room. passes (exactly .1 room));
+      writes =
+          λ p.
+          subst (λ (x : State). WritesSteps s before offset n x after) (sym (promise .1))
+          (subst (WritesSteps s before offset n (writeState s len offset n)) (sym (promise .2))
+          (choices-written s before offset n (exactly .0 (told p))));
+      keeps = λ refused. as-made (refused-keeps s before offset n (λ e. refused (passes e)));
+      none = λ zero. as-made (rw zero (none-written s before offset));
+    }
+
+pub written-twice : WrittenTwice
+written-twice s before half after all offset n m first second whole once more both passes =
+    let room = writes-exactly s (length before) offset (n + m) .0 (sym (both .0) ∙ ap toldChecked passes) in
+    let same = twice s before offset n m room in (
+      more .1
+          ∙ ap₂ (λ (x : State) (h : List ℕ). writeState x (length h) (offset + n) m) (once .1) (once .2)
+          ∙ same .0
+          ∙ sym (both .1),
+      more .2 ∙ ap₂ (λ (x : State) (h : List ℕ). writeBytes x h (offset + n) m) (once .1) (once .2) ∙ same .1 ∙ sym (both .2),
     )

@@ -1,72 +1,61 @@
--- What a reader may conclude from a timetable. Each statement is proved in proofs/, under its name.
+-- What a written timetable is, whatever result the promise of `write` allows. Each statement is proved in proofs/, under its name.
 use Prim.Native.Nat.{ℕ, _+_, _≤_, _<_}
 use mathlib.Core.Path.{_≡_}
 use mathlib.Core.Logic.{_↔_}
-use mathlib.Core.Bool.{true}
 use mathlib.Core.List.{List, []}
-use lib.ListN.{length, getD}
-use Rattle.job.specs.declared.list.JobList.{JobList}
-use Rattle.job.specs.Told.{row, passed}
-use Rattle.job.specs.Sound.{SoundList}
-use Rattle.place.specs.declared.setting.Setting.{Setting}
-use Rattle.place.specs.Setting.{settingAllowed}
+use lib.ListN.{length, take, drop}
+use Rattle.job.specs.declared.refusal.Checked.the-variants.{Passed}
+use Rattle.job.specs.Told.{row, toldChecked}
 use Rattle.run.specs.declared.state.State.{State}
-use Rattle.run.specs.State.{clockMost, freshOf}
+use Rattle.run.specs.declared.answer.Slot.{Slot}
+use Rattle.run.specs.State.{clockMost}
 use Rattle.run.specs.Sound.{SoundState}
-use Rattle.run.specs.Run.{choicesOf}
-use Rattle.run.specs.History.{RunHistory}
-use Rattle.timetable.specs.Table.{writeTold, writeState, writeBytes}
+use Rattle.run.specs.Calls.{Steps, bytesOf}
+use Rattle.timetable.specs.declared.writer.Written.{Written}
+use Rattle.timetable.specs.Promise.{WritePromise}
 
--- 'Tests: 10, 12 (offset + n above the length), 11 (clock + n above its limit).'
-abbrev pub RowTenExactly : Type 0
-RowTenExactly = (s : State) (len offset n : ℕ) → (writeTold s len offset n ≡ row 10 []) ↔ (SoundState s → ⊥)
-
-abbrev pub RowTwelveExactly : Type 0
-RowTwelveExactly =
-    (s : State) (len offset n : ℕ) → (writeTold s len offset n ≡ row 12 []) ↔ (SoundState s × (len < offset + n))
-
-abbrev pub RowElevenExactly : Type 0
-RowElevenExactly =
-    (s : State) (len offset n : ℕ)
-    → (writeTold s len offset n ≡ row 11 []) ↔ (SoundState s × (offset + n ≤ len) × (clockMost < s .clock + n))
-
--- it writes exactly if none of them is given
+-- it writes exactly if no row is given
 pub record Room (s : State) (len offset n : ℕ) : Type 0 where
   pub sound : SoundState s
   pub fits : offset + n ≤ len
   pub clock : s .clock + n ≤ clockMost
 
-abbrev pub WritesExactly : Type 0
-WritesExactly = (s : State) (len offset n : ℕ) → (writeTold s len offset n ≡ passed) ↔ Room s len offset n
+-- 'other bytes stay'
+pub record Stays (before after : List ℕ) (offset n : ℕ) : Type 0 where
+  pub long : length after ≡ length before
+  pub front : take offset after ≡ take offset before
+  pub behind : drop (offset + n) after ≡ drop (offset + n) before
 
--- 'n = 0 writes nothing and returns the state as it came.'
-abbrev pub NoneWritten : Type 0
-NoneWritten =
-    (s : State) (bytes : List ℕ) (offset : ℕ)
-    → (writeState s (length bytes) offset 0 ≡ s) × (writeBytes s bytes offset 0 ≡ bytes)
+-- 'The next n choices are written from a stated offset .. It returns the state after those n slots': what n calls of `step` answer and return
+pub record WritesSteps (s : State) (before : List ℕ) (offset n : ℕ) (next : State) (after : List ℕ) : Type 0 where
+  pub slots : List Slot
+  pub long : length slots ≡ n
+  pub steps : Steps s slots next
+  pub choices : take n (drop offset after) ≡ bytesOf slots
+  pub stays : Stays before after offset n
+
+-- 'Tests: 10, 12 (offset + n above the length), 11 (clock + n above its limit).'
+pub record WriteTold (s : State) (before : List ℕ) (offset n : ℕ) (r : Written) (after : List ℕ) : Type 0 where
+  pub row-ten : (toldChecked (r .answer) ≡ row 10 []) ↔ (SoundState s → ⊥)
+  pub row-twelve : (toldChecked (r .answer) ≡ row 12 []) ↔ (SoundState s × (length before < offset + n))
+  pub row-eleven :
+      (toldChecked (r .answer) ≡ row 11 []) ↔ (SoundState s × (offset + n ≤ length before) × (clockMost < s .clock + n))
+  pub passes : (r .answer ≡ Passed) ↔ Room s (length before) offset n
+  pub writes : r .answer ≡ Passed → WritesSteps s before offset n (r .state) after
+  -- 'A refused .. timetable writes nothing; a state handed in comes back equal.'
+  pub keeps : (r .answer ≡ Passed → ⊥) → (r .state ≡ s) × (after ≡ before)
+  -- 'n = 0 writes nothing and returns the state as it came.'
+  pub none : n ≡ 0 → (r .state ≡ s) × (after ≡ before)
+
+abbrev pub WriteAnswers : Type 0
+WriteAnswers =
+    (s : State) (before : List ℕ) (offset n : ℕ) (r : Written) (after : List ℕ) → WritePromise s before offset n r after
+    → WriteTold s before offset n r after
 
 -- writing n and then m from there is writing n + m
 abbrev pub WrittenTwice : Type 0
 WrittenTwice =
-    (s : State) (bytes : List ℕ) (offset n m : ℕ) → Room s (length bytes) offset (n + m)
-    → let next = writeState s (length bytes) offset n in
-    let half = writeBytes s bytes offset n in
-    (writeState next (length half) (offset + n) m ≡ writeState s (length bytes) offset (n + m))
-    × (writeBytes next half (offset + n) m ≡ writeBytes s bytes offset (n + m))
-
--- 'The next n choices are written from a stated offset .. ; other bytes stay.'
-abbrev pub BytesWritten : Type 0
-BytesWritten =
-    (s : State) (bytes : List ℕ) (offset n : ℕ) → Room s (length bytes) offset n
-    → (length (writeBytes s bytes offset n) ≡ length bytes)
-    × ((i : ℕ) → i < n → getD (writeBytes s bytes offset n) (offset + i) 0 ≡ getD (choicesOf s n) i 0)
-    × ((i : ℕ) → i < offset → getD (writeBytes s bytes offset n) i 0 ≡ getD bytes i 0)
-    × ((i : ℕ) → offset + n ≤ i → getD (writeBytes s bytes offset n) i 0 ≡ getD bytes i 0)
-
--- the state that is returned is the run's: every number of it is told by the choices written. 'Read back from choices in the original
--- model, an instance is finished in each period with at least C slots of its job; a byte that names no job serves none.'
-abbrev pub TableHistory : Type 0
-TableHistory =
-    (l : JobList) (setting : Setting) (bytes : List ℕ) (offset n : ℕ) → SoundList l → settingAllowed setting ≡ true
-    → offset + n ≤ length bytes → n ≤ clockMost
-    → RunHistory l setting n (writeState (freshOf l setting) (length bytes) offset n) (choicesOf (freshOf l setting) n)
+    (s : State) (before half after all : List ℕ) (offset n m : ℕ) (first second whole : Written)
+    → WritePromise s before offset n first half → WritePromise (first .state) half (offset + n) m second after
+    → WritePromise s before offset (n + m) whole all → whole .answer ≡ Passed
+    → (second .state ≡ whole .state) × (after ≡ all)

@@ -1,8 +1,6 @@
 // The timetable writer, for every state, buffer, offset and number of slots.
 ghost use mathlib.Core.Path.{_≡_};
-ghost use lib.ListN.{length};
-ghost use Rattle.job.specs.Told.{toldChecked};
-ghost use Rattle.timetable.specs.Table.{writeTold, writeState, writeBytes};
+ghost use Rattle.timetable.specs.Promise.{WritePromise};
 use crate::inner::fill;
 use job::Checked;
 use job::Refusal;
@@ -24,9 +22,7 @@ fn refused(state: State, refusal: Refusal) -> Written
 
 // Tests 10, 12, 11. Refused, it writes nothing and the state comes back.
 pub fn write(state: State, buf: &mut [u8], offset: usize, n: usize) -> Written
-    ensures { λ r. ⌜ toldChecked (r .answer) ≡ writeTold state (length (now (buf .entry))) offset n ⌝ }
-    ensures { λ r. ⌜ r .state ≡ writeState state (length (now (buf .entry))) offset n ⌝ }
-    ensures { λ r. ⌜ now (buf .exit) ≡ writeBytes state (now (buf .entry)) offset n ⌝ }
+    ensures { λ r. ⌜ WritePromise state (now (buf .entry)) offset n r (now (buf .exit)) ⌝ }
 {
     if !state.in_range() {
         return refused(state, Refusal::StateOutOfRange);

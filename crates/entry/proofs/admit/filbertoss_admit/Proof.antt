@@ -2,7 +2,7 @@
 use mathlib.Core.Path.{sym, ap, _∙_}
 use borrow.Author.Needs.{needs}
 use Rattle.job.specs.Told.{Told}
-use Rattle.entry.proofs.EntryLaws.{admit-broken, admit-judges}
+use Rattle.entry.proofs.EntryLaws.{admit-broken, admit-whole}
 use Rattle.entry.proofs.admit.filbertoss_admit.Statement.{statement}
 use Rattle.entry.proofs.admit.filbertoss_admit.Tie as tie
 
@@ -27,7 +27,7 @@ number-requires-2 c κs = search needs
 returns-2 : tie.Need-returns-2
 returns-2 c =
     let args = c .before .before .before .before .before .args in
-    cc (c .number2 .ensures, c .before .verdict .ensures, c .before .before .list-from .ensures, admit-judges (args .jobs .now) (args .model) (c .before .before .before .if1 .left))
+    cc (c .number2 .ensures, c .before .verdict .ensures, c .before .before .list-from .ensures, admit-whole (args .jobs .now) (args .model) (c .before .before .before .if1 .left))
 
 pub filbertoss-admit-spec : {M : Type 1} → statement M
 filbertoss-admit-spec =

@@ -75,7 +75,7 @@ returns-3 c =
     let list = writes .before .before .before .list-from .ensures in
     let write = c .before .before .before .write .ensures in
     let on = writes-on (args .jobs .now) (settingOf start) (args .buf .now) (args .offset) (args .n) whole passes in
-    (cc (c .number3 .ensures, write .0, state, list, on .told-is), cc (write .1 .1, state, list, on .bytes-are))
+    (cc (c .number3 .ensures, write .0, state, list, on .told-is), cc (write .2, state, list, on .bytes-are))
 
 pub filbertoss-fill-spec : {M : Type 1} → statement M
 filbertoss-fill-spec =

@@ -10,13 +10,14 @@ use Rattle.job.specs.Check.{listTold}
 use Rattle.place.specs.declared.setting.Setting.{Setting}
 use Rattle.place.specs.Setting.{settingAllowed}
 use Rattle.run.specs.Step.{startTold}
+use Rattle.place.proofs.Meaning.{allowed-exactly}
 use Rattle.run.proofs.StartLaws.{start-checks, not-started, state-passed, state-refused}
 use Rattle.run.proofs.steps.start.Statement.{statement}
 use Rattle.run.proofs.steps.start.Tie as tie
 
 -- in an allowed setting the answer is the list's
 checked : (l : JobList) (s : Setting) {r : Bool} {t : Told} → r ≡ settingAllowed s → not r ≡ false → t ≡ listTold l → startTold l s ≡ t
-checked l s {r} test allowed same = start-checks l s (sym test ∙ not-false r allowed) ∙ sym same
+checked l s {r} test allowed same = start-checks l s (allowed-exactly s .0 (sym test ∙ not-false r allowed)) ∙ sym same
 
 allowed-requires : tie.Need-allowed-requires
 allowed-requires c κs = search needs

@@ -26,8 +26,9 @@ refuses :
     {s : State} {bytes : List ℕ} {offset n : ℕ} {r : Refusal} {answer : Checked} {next : State}
     → answer ≡ Refused r → next ≡ s → Answers s bytes offset n (told r) s bytes
     → (toldChecked answer ≡ writeTold s (length bytes) offset n)
-    × ((next ≡ writeState s (length bytes) offset n) × (bytes ≡ writeBytes s bytes offset n))
-refuses is same a = (ap toldChecked is ∙ a .told-is, (same ∙ a .state-is, a .bytes-are))
+    × (next ≡ writeState s (length bytes) offset n)
+    × (bytes ≡ writeBytes s bytes offset n)
+refuses is same a = (ap toldChecked is ∙ a .told-is, same ∙ a .state-is, a .bytes-are)
 
 -- the part that is lent is n bytes long
 part-long : (bytes : List ℕ) (offset n : ℕ) → offset + n ≤ length bytes → length (take (offset + n - offset) (drop offset bytes)) ≡ n
@@ -110,10 +111,8 @@ returns-5 c =
     let long = part-long bytes (start .offset) (start .n) fits in
     let filled = c .before .before .fill .ensures in (
       a .told-is,
-      (
-        filled .0 ∙ ap (afterSlots (start .state)) long ∙ a .state-is,
-        put-back bytes (choicesOf (start .state) (start .n)) (start .offset) (start .n) (filled .1 ∙ ap (choicesOf (start .state)) long) (choices-long (start .state) (start .n)) ∙ a .bytes-are,
-      ),
+      filled .0 ∙ ap (afterSlots (start .state)) long ∙ a .state-is,
+      put-back bytes (choicesOf (start .state) (start .n)) (start .offset) (start .n) (filled .1 ∙ ap (choicesOf (start .state)) long) (choices-long (start .state) (start .n)) ∙ a .bytes-are,
     )
 
 pub write-spec : {M : Type 1} → statement M

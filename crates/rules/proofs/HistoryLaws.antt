@@ -1,8 +1,8 @@
--- One place, told by the list of choices: at the opening of its window, and one slot on.
+-- The counters of one place, told by the list of choices: at the opening of its window, and one slot on.
 use mathlib.Core.Path.{_≡_, refl, sym, ap, subst, _∙_}
 use mathlib.Core.Bool.{Bool, true, false, cond}
 use mathlib.Core.List.{List, [], _∷_, _++_}
-use Prim.Native.Nat.{ℕ, suc, _+_, _-_, _*_, _/_, _%_, _<_}
+use Prim.Native.Nat.{ℕ, suc, _+_, _-_, _*_, _/_, _%_, _≤_, _<_}
 use native.Mathlib.Nat.{zero-mod, zero-div, mod-lt, mod-le}
 use native.Mathlib.Omega.{arith}
 use lib.Dec.{eqb, leb}
@@ -18,12 +18,31 @@ use Rattle.place.specs.declared.record.Place.{Place}
 use Rattle.place.specs.Opening.{opened}
 use Rattle.place.specs.Place.{eligibleOf, overdueOf, workedOf, turnedOf, movedOf}
 use Rattle.place.specs.Sound.{SoundPlace}
-use Rattle.run.specs.Bytes.{slotsOf, finishedIn}
-use Rattle.run.specs.History.{sinceWindow, sincePeriod, periodsBegun, PlaceHistory}
+use Rattle.rules.specs.Rules.{slotsOf, finishedIn, periodStart, sinceWindow, periodsBegun}
 use Rattle.place.proofs.PlaceLaws.{eligible-original}
-use Rattle.run.proofs.BytesLaws.{countIn-none, countIn-more, finished-none, finished-append, finished-open, finished-empty}
-use Rattle.run.proofs.CycleLaws.{Tick, nothing-ends, period-ends, window-ends, cycle-goes-on, cycle-ends, since-goes-on, since-none, window-split, tick}
+use Rattle.rules.proofs.BytesLaws.{countIn-none, countIn-more, finished-none, finished-append, finished-open, finished-empty}
+use Rattle.rules.proofs.CycleLaws.{Tick, nothing-ends, period-ends, window-ends, cycle-goes-on, cycle-ends, since-goes-on, since-none, window-split, tick}
 use Rattle.run.proofs.CounterLaws.{Served, worked, turned-on, turned-period, turned-window}
+
+-- the bytes of the open period
+abbrev pub sincePeriod : Job → ℕ → List ℕ → List ℕ
+sincePeriod job n bytes = drop (periodStart job n) bytes
+
+-- place q of job number j after n slots of the choices `bytes`
+pub record PlaceHistory (setting : Setting) (job : Job) (j n : ℕ) (bytes : List ℕ) (q : Place) : Type 0 where
+  pub same-job : q .job ≡ job
+  pub e-is : q .at .e ≡ n % job .t
+  pub p-is : q .at .p ≡ periodsBegun job n
+  pub u-is : setting .model ≡ relaxed → q .at .u ≡ slotsOf j (sinceWindow job n bytes)
+  pub v-is : setting .model ≡ original → q .at .v ≡ slotsOf j (sincePeriod job n bytes)
+  pub s-is : setting .model ≡ original → q .at .s ≡ finishedIn job j (sinceWindow job n bytes) (periodsBegun job n)
+
+-- what a place has had of its window, by the bytes seen: those before slot n, or its own too
+pub record Worked (setting : Setting) (job : Job) (j n : ℕ) (seen : List ℕ) (q : Place) : Type 0 where
+  pub same-job : q .job ≡ job
+  pub short : length (sinceWindow job n seen) ≤ periodsBegun job n * job .t
+  pub u-is : setting .model ≡ relaxed → q .at .u ≡ slotsOf j (sinceWindow job n seen)
+  pub s-is : setting .model ≡ original → q .at .s ≡ finishedIn job j (sinceWindow job n seen) (periodsBegun job n)
 
 -- where a cycle opens, no slot of it is given yet
 none-since : (j m n : ℕ) (bytes : List ℕ) → length bytes ≡ n → n % m ≡ 0 → slotsOf j (drop (n - n % m) bytes) ≡ 0
@@ -145,6 +164,19 @@ module _
         (ap (slotsOf j) more ∙ sym (v-given m) ∙ served .v-more m)
         (finished-append job j window (b ∷ []) past (omega (arith, window-long))))
 
+    -- the same, over the window's bytes with b among them
+    window-more : sinceWindow job n (bytes ++ b ∷ []) ≡ window ++ b ∷ []
+    window-more = drop-append-le (n - n % windowOf job) bytes (b ∷ []) (omega arith)
+
+    worked-told : Worked setting job j n (bytes ++ b ∷ []) given
+    worked-told =
+        record {
+          same-job = served .same-job;
+          short = rw window-more (omega (arith, window-long, length-append window (b ∷ []), mod-lt n (sound .job .t .low)));
+          u-is = λ m. rw window-more (u-given m);
+          s-is = λ m. rw window-more (s-given m);
+        }
+
     -- then the clock moves on
     longer : length (bytes ++ b ∷ []) ≡ suc n
     longer = omega (arith, length-append bytes (b ∷ []))
@@ -192,12 +224,21 @@ module _
             (opens setting job (sound .job) j (suc n) (bytes ++ b ∷ []) longer (cycle-ends (job .t) n ends)
             (cycle-ends (windowOf job) n closes))
 
-pub history-goes-on :
-    (setting : Setting) (job : Job) (j n : ℕ) (bytes : List ℕ) (q : Place) → PlaceHistory setting job j n bytes q
-    → SoundPlace setting q → length bytes ≡ n → (b : ℕ) → (eqb b j ≡ true → eligibleOf setting q ≡ true)
-    → PlaceHistory setting job j (suc n) (bytes ++ b ∷ []) (movedOf setting q (eqb b j) .place)
-unfolding movedOf
-history-goes-on setting job j n bytes q before sound long b fair =
-    subst (λ (x : Job). PlaceHistory setting x j (suc n) (bytes ++ b ∷ []) (movedOf setting q (eqb b j) .place)) (before .same-job)
-    (next setting j n bytes b q
-    (subst (λ (x : Job). PlaceHistory setting x j n bytes q) (sym (before .same-job)) before) sound long fair)
+-- one slot on, for a place told by its own job
+module _
+    (setting : Setting) (job : Job) (j n : ℕ) (bytes : List ℕ) (q : Place) (told : PlaceHistory setting job j n bytes q)
+    (sound : SoundPlace setting q) (long : length bytes ≡ n) (b : ℕ) (fair : eqb b j ≡ true → eligibleOf setting q ≡ true)
+  where
+    own : PlaceHistory setting (q .job) j n bytes q
+    own = subst (λ (x : Job). PlaceHistory setting x j n bytes q) (sym (told .same-job)) told
+
+    pub history-worked : Worked setting job j n (bytes ++ b ∷ []) (workedOf setting q (eqb b j) (overdueOf setting q))
+    history-worked =
+        subst (λ (x : Job). Worked setting x j n (bytes ++ b ∷ []) (workedOf setting q (eqb b j) (overdueOf setting q)))
+        (told .same-job) (worked-told setting j n bytes b q own sound long fair)
+
+    pub history-goes-on : PlaceHistory setting job j (suc n) (bytes ++ b ∷ []) (movedOf setting q (eqb b j) .place)
+    unfolding movedOf
+    history-goes-on =
+        subst (λ (x : Job). PlaceHistory setting x j (suc n) (bytes ++ b ∷ []) (movedOf setting q (eqb b j) .place))
+        (told .same-job) (next setting j n bytes b q own sound long fair)

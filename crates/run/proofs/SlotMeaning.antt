@@ -1,0 +1,283 @@
+-- One slot of a state in its ranges is as specs/SlotMeaning says it.
+use mathlib.Core.Path.{_≡_, refl, sym, ap, ap₂, _∙_}
+use mathlib.Core.Bool.{Bool, true, false, _&&_, _||_, not, cond}
+use mathlib.Core.Logic.{_↔_}
+use Prim.Native.Nat.{ℕ, _+_, _-_, _*_, _≤_, _<_}
+use native.Mathlib.Nat.{mul-le-mul-right}
+use native.Mathlib.Omega.{arith}
+use lib.Dec.{eqb, leb, ltb}
+use lib.IntN.{pos, _-ℤ_}
+use borrow.Author.Tests.{eqb-true, eqb-false, ne-eqb}
+use Rattle.place.specs.declared.setting.Setting.{Setting}
+use Rattle.place.specs.declared.record.Place.{Place}
+use Rattle.place.specs.declared.inner.choice.Held.{Held}
+use Rattle.place.specs.Setting.{inOrderV}
+use Rattle.place.specs.Place.{windowLeft, finishedOf, owedOf, eligibleOf, numeratorOf, overdueOf, firstTagged, placed, servedOf, taggedOf, workedOf, windowEnds, shortOf, turnedOf, movedOf}
+use Rattle.place.specs.Choice.{distanceOf, nearerOf}
+use Rattle.place.specs.Sound.{SoundPlace}
+use Rattle.place.proofs.PlaceLaws.{worked-ends}
+use Rattle.place.proofs.SignedLaws.{difference-most}
+use Rattle.place.proofs.DistanceLaws.{minus, side, nearer-is, difference-parts, ltb-shift}
+use Rattle.run.specs.declared.state.State.{State}
+use Rattle.run.specs.declared.answer.Choice.{Choice}
+use Rattle.run.specs.declared.answer.Choice.the-variants.{Given, Idle}
+use Rattle.run.specs.declared.answer.StepAnswer.the-variants.{Done}
+use Rattle.run.specs.Choice.{chosenOf}
+use Rattle.run.specs.Slot.{choiceOf, tagsAt, shortsAt, allMoved, turnOf}
+use Rattle.run.specs.Sound.{SoundState}
+use Rattle.run.specs.SlotMeaning.{left, periodCloses, isRelaxed, owed, due, sooner, late, served, onward, isGiven, placeOf, dueAt, Picks, Idles, given, firstTags, endsShort, SlotDone, StepsSlot}
+use Rattle.run.proofs.ChoiceLaws.{at, away, Chosen, given-idle, given-exactly, idle-exactly}
+use Rattle.run.proofs.CounterLaws.{turned-on, turned-period, turned-window}
+use Rattle.run.proofs.SlotLaws.{placed-length, placed-later, mask-exactly, count-is}
+use Rattle.run.proofs.KeepLaws.{turn-place}
+use Rattle.run.proofs.AnswerLaws.{step-one-to-one, state-done}
+use Rattle.run.proofs.CallLaws.{step-done}
+
+-- a place
+
+module _ (setting : Setting) (q : Place) where
+  left-is : windowLeft q ≡ left q
+  unfolding windowLeft
+  left-is = refl
+
+  owed-is : owedOf setting q ≡ owed setting q
+  unfolding owedOf finishedOf owed
+  owed-is = refl
+
+  due-is : eligibleOf setting q ≡ due setting q
+  unfolding eligibleOf due
+  due-is = refl
+
+  late-is : overdueOf setting q ≡ late setting q
+  unfolding overdueOf numeratorOf late
+  late-is =
+      let m′ : ℕ = owedOf setting q in
+      ap (ltb 0 m′ &&_)
+      (difference-most (windowLeft q) (q .at .e * m′) m′
+      ∙ ap (leb (windowLeft q)) (let e : q .at .e * m′ + m′ ≡ (q .at .e + 1) * m′ = omega arith in e))
+      ∙ rw (owed-is, left-is)
+
+  -- the period is not over, and so neither is the window
+  gone-high : SoundPlace setting q → q .at .e ≤ left q
+  gone-high sound =
+      omega (arith, sound .e-high, mul-le-mul-right (q .job .t) (let h : 1 ≤ q .job .k - q .at .p + 1 = omega arith in h))
+
+-- two distances, as fractions and as whole slots
+
+fractions :
+    (i j l l′ e e′ m m′ : ℕ)
+    → nearerOf (record { at = i; num = pos l -ℤ pos (e * m); den = m }) (record { at = j; num = pos l′ -ℤ pos (e′ * m′); den = m′ })
+    ≡ ltb ((l + e′ * m) * m′) ((l′ + e * m′) * m)
+fractions i j l l′ e e′ m m′ =
+    let x = pos l -ℤ pos (e * m) in
+    let y = pos l′ -ℤ pos (e′ * m′) in
+    let a : Held = record { at = i; num = x; den = m } in
+    let b : Held = record { at = j; num = y; den = m′ } in
+    nearer-is a b
+    ∙ ltb-shift (side a b) (side b a) ((l + e′ * m) * m′) ((l′ + e * m′) * m) (e * m * m′ + e′ * m * m′)
+    (minus x * m′ + minus y * m)
+    (omega (arith, ap (_* m′) (difference-parts l (e * m))))
+    (omega (arith, ap (_* m) (difference-parts l′ (e′ * m′))))
+
+wholes :
+    (i j l l′ e e′ : ℕ) → e ≤ l → e′ ≤ l′
+    → nearerOf (record { at = i; num = pos (l - e); den = 1 }) (record { at = j; num = pos (l′ - e′); den = 1 })
+    ≡ ltb (l + e′) (l′ + e)
+wholes i j l l′ e e′ h h′ =
+    let a : Held = record { at = i; num = pos (l - e); den = 1 } in
+    let b : Held = record { at = j; num = pos (l′ - e′); den = 1 } in
+    nearer-is a b ∙ ltb-shift (side a b) (side b a) (l + e′) (l′ + e) (e + e′) 0 (omega arith) (omega arith)
+
+sooner-is :
+    (setting : Setting) (i j : ℕ) (q r : Place) → SoundPlace setting q → SoundPlace setting r
+    → nearerOf (distanceOf setting i q) (distanceOf setting j r) ≡ sooner setting q r
+unfolding distanceOf numeratorOf sooner owedOf finishedOf owed windowLeft
+sooner-is setting i j q r sound-q sound-r = go (inOrderV setting)
+  where
+    go :
+        (t : Bool)
+        → nearerOf
+        (cond t (record { at = i; num = pos (left q) -ℤ pos (q .at .e * owed setting q); den = owed setting q })
+        (record { at = i; num = pos (left q - q .at .e); den = 1 }))
+        (cond t (record { at = j; num = pos (left r) -ℤ pos (r .at .e * owed setting r); den = owed setting r })
+        (record { at = j; num = pos (left r - r .at .e); den = 1 }))
+        ≡ cond t (ltb ((left q + r .at .e * owed setting q) * owed setting r) ((left r + q .at .e * owed setting r) * owed setting q))
+        (ltb (left q + r .at .e) (left r + q .at .e))
+    go true = fractions i j (left q) (left r) (q .at .e) (r .at .e) (owed setting q) (owed setting r)
+    go false =
+        wholes i j (left q) (left r) (q .at .e) (r .at .e) (gone-high setting q sound-q) (gone-high setting r sound-r)
+
+-- the choice
+
+module _ (s : State) (sound : SoundState s) where
+  sooner-at :
+      (i j : ℕ) → i < s .count → j < s .count
+      → nearerOf (away (s .setting) (s .places) i) (away (s .setting) (s .places) j) ≡ sooner (s .setting) (placeOf s i) (placeOf s j)
+  sooner-at i j h g = sooner-is (s .setting) i j (at s i) (at s j) (sound .places i h) (sound .places j g)
+
+  due-at : (i : ℕ) → eligibleOf (s .setting) (at s i) ≡ dueAt s i
+  due-at i = due-is (s .setting) (at s i)
+
+  chosen-picks : (j : ℕ) → Chosen s j ↔ Picks s j
+  chosen-picks j = (
+    λ c.
+        record {
+          listed = c .listed;
+          is-due = sym (due-at j) ∙ c .is-eligible;
+          none-sooner = λ i h due. sym (sooner-at i j h (c .listed)) ∙ c .none-nearer i h (due-at i ∙ due);
+          lower-later =
+              λ i h due. sym (sooner-at j i (c .listed) (omega (arith, c .listed))) ∙ c .lower-farther i h (due-at i ∙ due);
+        },
+    λ p.
+        record {
+          listed = p .listed;
+          is-eligible = due-at j ∙ p .is-due;
+          none-nearer =
+              λ i h eligible. sooner-at i j h (p .listed) ∙ p .none-sooner i h (sym (due-at i) ∙ eligible);
+          lower-farther =
+              λ i h eligible.
+              sooner-at j i (p .listed) (omega (arith, p .listed)) ∙ p .lower-later i h (sym (due-at i) ∙ eligible);
+        },
+  )
+
+  none-idles : ((i : ℕ) → i < s .count → eligibleOf (s .setting) (at s i) ≡ false) ↔ Idles s
+  none-idles = (λ none i h. sym (due-at i) ∙ none i h, λ idles i h. due-at i ∙ idles i h)
+
+-- the place after the slot, and the two sets
+
+module _ (setting : Setting) (q : Place) where
+  served-is : (chosen : Bool) → workedOf setting q chosen (overdueOf setting q) ≡ served setting q chosen
+  unfolding workedOf servedOf served
+  served-is chosen = rw (late-is setting q) (go chosen (isRelaxed setting) (late setting q))
+    where
+      go :
+          (given relaxed tags : Bool)
+          → cond given
+          (cond relaxed (placed q (q .at .e) (q .at .p) (q .at .u + 1) (q .at .s) (q .at .v) (q .at .tag))
+          (placed q (q .at .e) (q .at .p) (q .at .u) (cond (eqb (q .at .v + 1) (q .job .c)) (q .at .s + 1) (q .at .s)) (q .at .v + 1) (q .at .tag)))
+          (cond tags (taggedOf q) q)
+          ≡ placed q (q .at .e) (q .at .p) (cond (given && relaxed) (q .at .u + 1) (q .at .u))
+          (cond (given && not relaxed && eqb (q .at .v + 1) (q .job .c)) (q .at .s + 1) (q .at .s))
+          (cond (given && not relaxed) (q .at .v + 1) (q .at .v)) ((not given && tags) || q .at .tag)
+      go true true tags = refl
+      go true false tags = refl
+      go false relaxed true = refl
+      go false relaxed false = refl
+
+onward-is : (q : Place) → q .at .e < q .job .t → q .at .p ≤ q .job .k → turnedOf q ≡ onward q
+unfolding turnedOf onward
+onward-is q gone within = go (eqb (q .at .e + 1) (q .job .t)) (eqb (q .at .p) (q .job .k)) refl refl
+  where
+    go : (period window : Bool) → periodCloses q ≡ period → eqb (q .at .p) (q .job .k) ≡ window → turnedOf q ≡ onward q
+    go false window e f =
+        let inside = eqb-false (q .at .e + 1) (q .job .t) e in
+        turned-on q (omega arith) ∙ rw e
+    go true false e f =
+        let closes = eqb-true (q .at .e + 1) (q .job .t) e in
+        let more = eqb-false (q .at .p) (q .job .k) f in
+        turned-period q (omega arith) (omega arith) ∙ rw (e, f)
+    go true true e f =
+        let closes = eqb-true (q .at .e + 1) (q .job .t) e in
+        let last = eqb-true (q .at .p) (q .job .k) f in
+        turned-window q (omega arith) (omega arith) ∙ rw (e, f)
+
+-- the answer's choice says which place is chosen
+given-at : (a i : ℕ) → i < 16 → eqb i a ≡ isGiven (choiceOf a) i
+unfolding choiceOf
+given-at a i h = go (eqb a 16) refl
+  where
+    go : (t : Bool) → eqb a 16 ≡ t → eqb i a ≡ isGiven (cond t Idle (Given a)) i
+    go true e = ne-eqb i a (let is = eqb-true a 16 e in omega arith)
+    go false e = refl
+
+-- and whether none is
+some-at : (a j : ℕ) → choiceOf a ≡ Given j → eqb a 16 ≡ false
+unfolding choiceOf
+some-at a j = go (eqb a 16)
+  where
+    go : (t : Bool) → cond t Idle (Given a) ≡ Given j → t ≡ false
+    go true e = absurd (given-idle (sym e))
+    go false e = refl
+
+none-at : (a : ℕ) → choiceOf a ≡ Idle → eqb a 16 ≡ true
+unfolding choiceOf
+none-at a = go (eqb a 16)
+  where
+    go : (t : Bool) → cond t Idle (Given a) ≡ Idle → t ≡ true
+    go true e = refl
+    go false e = absurd (given-idle e)
+
+module _ (s : State) (sound : SoundState s) where
+  abbrev choice : Choice
+  choice = turnOf s .slot .choice
+
+  choice-is : choice ≡ choiceOf (chosenOf s)
+  unfolding turnOf
+  choice-is = refl
+
+  module _ (i : ℕ) (listed : i < s .count) where
+    chosen-is : eqb i (chosenOf s) ≡ isGiven choice i
+    chosen-is =
+        given-at (chosenOf s) i (omega (arith, sound .count .high)) ∙ ap (λ (c : Choice). isGiven c i) (sym choice-is)
+
+    worked-here : workedOf (s .setting) (at s i) (eqb i (chosenOf s)) (overdueOf (s .setting) (at s i)) ≡ given s choice i
+    worked-here = served-is (s .setting) (at s i) (eqb i (chosenOf s)) ∙ ap (served (s .setting) (at s i)) chosen-is
+
+    first-here : tagsAt (s .setting) (s .places) (chosenOf s) i ≡ firstTags s choice i
+    unfolding movedOf firstTagged firstTags
+    first-here = rw (chosen-is, late-is (s .setting) (at s i))
+
+    short-here : shortsAt (s .setting) (s .places) (chosenOf s) i ≡ endsShort s choice i
+    unfolding movedOf shortOf endsShort windowEnds
+    short-here =
+        ap₂ (λ (a : Bool) (n : ℕ). a && ltb 0 n)
+        (worked-ends (s .setting) (at s i) (eqb i (chosenOf s)) (overdueOf (s .setting) (at s i)))
+        (ap (owedOf (s .setting)) worked-here ∙ owed-is (s .setting) (given s choice i))
+
+    place-here : placeOf (turnOf s .state) i ≡ onward (given s choice i)
+    unfolding movedOf served
+    place-here =
+        turn-place s sound i listed
+        ∙ ap turnedOf worked-here
+        ∙ onward-is (given s choice i) (sound .places i listed .e-high) (sound .places i listed .period .high)
+
+-- the slot
+
+module _ (s : State) (sound : SoundState s) where
+  slot-done : SlotDone s (turnOf s .slot) (turnOf s .state)
+  unfolding turnOf allMoved
+  slot-done =
+      record {
+        given-is =
+            λ j.
+            let a = given-exactly s sound j in
+            let b = chosen-picks s sound j in
+            (λ e. b .0 (a .0 e), λ p. a .1 (b .1 p));
+        idle-is =
+            let a = idle-exactly s sound in
+            let b = none-idles s sound in
+            (λ e. b .0 (a .0 e), λ none. a .1 (b .1 none));
+        tags-are =
+            mask-exactly (tagsAt (s .setting) (s .places) (chosenOf s)) (firstTags s (turnOf s .slot .choice)) refl (first-here s sound);
+        shorts-are =
+            mask-exactly (shortsAt (s .setting) (s .places) (chosenOf s)) (endsShort s (turnOf s .slot .choice)) refl (short-here s sound);
+        setting-stays = refl;
+        count-stays = refl;
+        clock-grows = refl;
+        places-long = placed-length (s .setting) (s .places) (chosenOf s) (s .count) ∙ sound .long;
+        places-are = place-here s sound;
+        others-stay = placed-later (s .setting) (s .places) (chosenOf s) (s .count);
+        given-total = λ j is. let e = some-at (chosenOf s) j is in (rw e, rw e);
+        idle-total = λ is. let e = none-at (chosenOf s) is in (rw e, rw e);
+        tags-total =
+            ap (s .totals .tags +_)
+            (count-is (tagsAt (s .setting) (s .places) (chosenOf s)) (firstTags s (turnOf s .slot .choice)) (s .count) (first-here s sound));
+        shorts-total =
+            ap (s .totals .shorts +_)
+            (count-is (shortsAt (s .setting) (s .places) (chosenOf s)) (endsShort s (turnOf s .slot .choice)) (s .count) (short-here s sound));
+      }
+
+pub steps-slot : StepsSlot
+steps-slot s sound below r promise =
+    let told = step-done s sound below in
+    (turnOf s .slot, step-one-to-one (r .answer) (Done (turnOf s .slot)) (promise .0 ∙ told), rw (promise .1 ∙ state-done s told) (slot-done s sound))

@@ -34,8 +34,8 @@
 #define FILBERTOSS_ORDER_V 0
 #define FILBERTOSS_ORDER_W 1
 
-/* Models. Relaxed: an instance begun before a period ends keeps its served part.
- * Original: an unfinished part is lost at the period's end. */
+/* Models. Relaxed: an instance begun before a period ends keeps its served part inside its window; at
+ * the window's end an unfinished part is lost. Original: it is lost at the period's end. */
 #define FILBERTOSS_RELAXED 0
 #define FILBERTOSS_ORIGINAL 1
 

@@ -15,7 +15,7 @@ use Rattle.job.proofs.ToldLaws.{one-to-one, rowBack, row-back, told-refuses}
 use Rattle.admission.specs.declared.answer.Admission.{Admission}
 use Rattle.admission.specs.declared.answer.Admission.the-variants.{Admitted, Refused}
 use Rattle.admission.specs.Answer.{toldAdmission, returnsBoth, cycleReturned, loadReturned}
-use Rattle.admission.specs.Meaning.{AdmissionOneToOne, AdmissionNumbered, CycleReturned, LoadReturned}
+use Rattle.admission.specs.Meaning.{AdmissionOneToOne, AdmissionNumbered, Returned, CycleReturned, LoadReturned}
 
 -- what is returned of an answer is what is returned of its variant
 pub returned : (f : Told → ℕ) {a b : Admission} → a ≡ b → f (toldAdmission b) ≡ f (toldAdmission a)
@@ -54,23 +54,25 @@ refused-otherwise {r = r} e k =
     ap (λ (x : Admission). returnsBoth (toldAdmission x)) e
     ∙ others-return-none r (λ h d same. miss others 8 tt (subst (λ (x : Refusal). OneOf others (tagOf the-type x)) same k))
 
-pub cycle-returned : CycleReturned
-unfolding cycleReturned
-cycle-returned =
+-- one of the two values, 0 where they are not returned
+value-returned :
+    (i : ℕ)
+    → Returned (λ a r. r ≡ cond (returnsBoth (toldAdmission a)) (getD (toldAdmission a .values) i 0) 0)
+    (λ h d. getD (h ∷ d ∷ []) i 0)
+value-returned i =
     record {
       admitted = λ h d r e. e;
       overload = λ h d r e. e;
       otherwise = λ x r other e. rw (others-return-none x other) at e;
     }
 
+pub cycle-returned : CycleReturned
+unfolding cycleReturned
+cycle-returned = value-returned 0
+
 pub load-returned : LoadReturned
 unfolding loadReturned
-load-returned =
-    record {
-      admitted = λ h d r e. e;
-      overload = λ h d r e. e;
-      otherwise = λ x r other e. rw (others-return-none x other) at e;
-    }
+load-returned = value-returned 1
 
 pub admission-numbered : AdmissionNumbered
 admission-numbered a r e = e

@@ -14,8 +14,7 @@ use Rattle.place.specs.declared.setting.Setting.{Setting}
 use Rattle.place.specs.Sound.{Allowed}
 use Rattle.run.specs.declared.state.State.{State}
 use Rattle.run.specs.State.{clockMost, placeAt, freshOf}
-use Rattle.run.specs.Choice.{chosenOf}
-use Rattle.run.specs.Slot.{countUpto, tagsAt, shortsAt, allMoved, turnOf}
+use Rattle.run.specs.Slot.{countUpto, allMoved, turnOf}
 use Rattle.run.specs.Sound.{SoundState}
 use Rattle.run.specs.Run.{afterSlots, choicesOf}
 use Rattle.run.proofs.FreshLaws.{fresh-listed, fresh-sound}
@@ -156,21 +155,24 @@ module _ (l : JobList) (setting : Setting) (jobs : SoundList l) (allowed : Allow
       pub slot-told : SlotTold l setting bytes n (turnOf now .slot)
       slot-told = subst (λ (x : Setting). SlotTold l x bytes n (turnOf now .slot)) (after-setting fresh n) slot-at
 
+      -- a set of the slot has as many jobs as its rule
+      sized :
+          (f : ℕ → Bool) (rule : Setting → ℕ → Bool) → ((i : ℕ) → i < l .count → f i ≡ rule (now .setting) i)
+          → countUpto f (now .count) ≡ howMany (rule setting) (l .count)
+      sized f rule same =
+          ap (countUpto f) same-count
+          ∙ count-is f (rule (now .setting)) (l .count) same
+          ∙ ap (λ (x : Setting). howMany (rule x) (l .count)) (after-setting fresh n)
+
       tags-more : turnOf now .state .totals .tags ≡ now .totals .tags + howMany (firstTags l setting bytes n) (l .count)
       tags-more =
           turn-tags now (sound-after n (omega arith))
-          ∙ ap (now .totals .tags +_)
-          (ap (countUpto (tagsAt (now .setting) (now .places) (chosenOf now))) same-count
-          ∙ count-is _ (firstTags l (now .setting) bytes n) (l .count) (first-here l jobs bytes n now (before n h))
-          ∙ ap (λ (x : Setting). howMany (firstTags l x bytes n) (l .count)) (after-setting fresh n))
+          ∙ ap (now .totals .tags +_) (sized _ (λ x. firstTags l x bytes n) (first-here l jobs bytes n now (before n h)))
 
       shorts-more : turnOf now .state .totals .shorts ≡ now .totals .shorts + howMany (endsShort l setting bytes n) (l .count)
       shorts-more =
           turn-shorts now (sound-after n (omega arith))
-          ∙ ap (now .totals .shorts +_)
-          (ap (countUpto (shortsAt (now .setting) (now .places) (chosenOf now))) same-count
-          ∙ count-is _ (endsShort l (now .setting) bytes n) (l .count) (short-here l jobs bytes n now (before n h))
-          ∙ ap (λ (x : Setting). howMany (endsShort l x bytes n) (l .count)) (after-setting fresh n))
+          ∙ ap (now .totals .shorts +_) (sized _ (λ x. endsShort l x bytes n) (short-here l jobs bytes n now (before n h)))
 
     pub tags-after : (n : ℕ) → n ≤ N → after n .totals .tags ≡ sumUpto (λ i. howMany (firstTags l setting bytes i) (l .count)) n
     unfolding afterSlots sumUpto

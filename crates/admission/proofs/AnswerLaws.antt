@@ -1,5 +1,5 @@
 -- What an answer returns, by its variant; and an answer is determined by the paper's number and values.
-use mathlib.Core.Path.{_≡_, refl, sym, _∙_, ap, subst}
+use mathlib.Core.Path.{_≡_, refl, _∙_, ap, subst}
 use mathlib.Core.Bool.{false, cond}
 use mathlib.Core.List.{List, [], _∷_}
 use Prim.Native.Nat.{ℕ}
@@ -16,13 +16,6 @@ use Rattle.admission.specs.declared.answer.Admission.{Admission}
 use Rattle.admission.specs.declared.answer.Admission.the-variants.{Admitted, Refused}
 use Rattle.admission.specs.Answer.{toldAdmission, returnsBoth, cycleReturned, loadReturned}
 use Rattle.admission.specs.Meaning.{AdmissionOneToOne, AdmissionNumbered, Returned, CycleReturned, LoadReturned}
-
--- what is returned of an answer is what is returned of its variant
-pub returned : (f : Told → ℕ) {a b : Admission} → a ≡ b → f (toldAdmission b) ≡ f (toldAdmission a)
-returned f e = ap (λ (x : Admission). f (toldAdmission x)) (sym e)
-
-pub refused : (f : Told → ℕ) {a : Admission} {r s : Refusal} → a ≡ Refused r → r ≡ s → f (told s) ≡ f (toldAdmission a)
-refused f e same = ap (λ (x : Refusal). f (told x)) (sym same) ∙ returned f e
 
 -- neither cycle nor load is returned of a refusal that is not row 9
 others-return-none : (r : Refusal) → ((h d : ℕ) → r ≡ Overload h d → ⊥) → returnsBoth (told r) ≡ false

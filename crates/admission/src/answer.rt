@@ -7,6 +7,11 @@ pub enum Admission {
     Refused(Refusal),
 }
 
+struct Amounts {
+    cycle: u64,
+    load: u64,
+}
+
 impl Admission {
     // 0, or the row's number.
     pub fn number(self) -> u32
@@ -19,33 +24,32 @@ impl Admission {
     }
 
     // 'Cycle and load are 0 in each refusal but 9, which returns both.'
-    pub fn cycle(self) -> u64
-        ensures { λ r. ⌜ CyclePromise self r ⌝ }
+    fn amounts(self) -> Amounts
+        ensures { λ r. ⌜ CyclePromise self (r .cycle) × LoadPromise self (r .load) ⌝ }
     {
         match self {
-            Admission::Admitted { cycle, load: _ } => cycle,
+            Admission::Admitted { cycle, load } => Amounts { cycle, load },
             Admission::Refused(refusal) => {
-                if let Refusal::Overload { cycle, load: _ } = refusal {
-                    cycle
+                if let Refusal::Overload { cycle, load } = refusal {
+                    Amounts { cycle, load }
                 } else {
-                    0
+                    Amounts { cycle: 0, load: 0 }
                 }
             }
         }
     }
 
+    pub fn cycle(self) -> u64
+        ensures { λ r. ⌜ CyclePromise self r ⌝ }
+    {
+        let both = self.amounts();
+        both.cycle
+    }
+
     pub fn load(self) -> u64
         ensures { λ r. ⌜ LoadPromise self r ⌝ }
     {
-        match self {
-            Admission::Admitted { cycle: _, load } => load,
-            Admission::Refused(refusal) => {
-                if let Refusal::Overload { cycle: _, load } = refusal {
-                    load
-                } else {
-                    0
-                }
-            }
-        }
+        let both = self.amounts();
+        both.load
     }
 }

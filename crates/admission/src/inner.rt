@@ -16,18 +16,12 @@ pub enum Cycle {
     TooLong,
 }
 
-fn wide(x: u32) -> u64
-    ensures { λ r. ⌜ r ≡ x ⌝ }
-{
-    x as u64
-}
-
 // kT, the slots of a job's window.
 fn window(job: Job) -> u64
     requires { ⌜ SoundJob job ⌝ }
     ensures { λ r. ⌜ r ≡ windowOf job ⌝ }
 {
-    wide(job.k) * wide(job.t)
+    (job.k as u64) * (job.t as u64)
 }
 
 // mC (H / kT), a job's part of the load of H slots.
@@ -36,7 +30,7 @@ fn share(job: Job, cycle: u64) -> u64
     requires { ⌜ cycle ≤ cycleMost ⌝ }
     ensures { λ r. ⌜ r ≡ shareOf job cycle ⌝ }
 {
-    wide(job.m) * wide(job.c) * (cycle / window(job))
+    (job.m as u64) * (job.c as u64) * (cycle / window(job))
 }
 
 // The least common multiple of all windows. Once it is above the limit it stays so.

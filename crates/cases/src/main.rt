@@ -44,7 +44,7 @@ fn print_step(state: State) -> State {
 fn print_run(name: &[u8], list: JobList, order: u32, model: u32, slots: u32) {
     print(name);
     print(b"\n");
-    let started = run::start(list, Setting { order, model });
+    let started = run::start(list, Setting::of(order, model));
     let mut state = started.state;
     let mut n: u32 = 0;
     while n < slots {

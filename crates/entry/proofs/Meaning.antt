@@ -22,6 +22,7 @@ use Rattle.admission.specs.Cycle.{cycleOf}
 use Rattle.admission.specs.Load.{loadOf}
 use Rattle.admission.specs.Verdict.{judgedTold, verdictTold}
 use Rattle.place.specs.declared.setting.Setting.{Setting}
+use Rattle.place.specs.Setting.{settingOf}
 use Rattle.place.specs.Sound.{Allowed}
 use Rattle.run.specs.declared.state.State.{State}
 use Rattle.run.specs.State.{clockMost}
@@ -265,7 +266,7 @@ module _ (jobs : List ℕ) (l : JobList) (held : BytesOfList jobs l) (setting : 
 
 pub fill-answers : FillAnswers
 fill-answers jobs l held order model before offset n r after promise =
-    let s : Setting = record { order = order; model = model } in
+    let s = settingOf order model in
     let is : r ≡ fillNumber jobs s before offset n = promise .0 in
     record {
       row-fifteen = rw is (says jobs l held s before offset n 15, fifteen-given jobs l held s before offset n);
@@ -281,7 +282,7 @@ fill-answers jobs l held order model before offset n r after promise =
 
 pub fill-row-fourteen : FillRowFourteen
 fill-row-fourteen jobs order model before offset n r after promise =
-    let s : Setting = record { order = order; model = model } in
+    let s = settingOf order model in
     let is : r ≡ fillNumber jobs s before offset n = promise .0 in (
       (
         λ e whole. says jobs (listFrom jobs) (read-holds jobs whole) s before offset n 14 (sym is ∙ e),

@@ -6,20 +6,17 @@ use Rattle.job.specs.declared.record.Job.{Job}
 use Rattle.job.specs.declared.list.JobList.{JobList}
 use Rattle.job.specs.Filled.{listBy}
 
-abbrev pub byteAt : List ℕ → ℕ → ℕ
-byteAt bytes i = getD bytes i 0
-
 -- '16 bits, low byte first'
 abbrev pub pairAt : List ℕ → ℕ → ℕ
-pairAt bytes i = byteAt bytes i + 256 * byteAt bytes (i + 1)
+pairAt bytes i = getD bytes i 0 + 256 * getD bytes (i + 1) 0
 
 abbrev pub jobFrom : List ℕ → ℕ → Job
 jobFrom bytes i =
     record {
       c = pairAt bytes (i * 6);
       t = pairAt bytes (i * 6 + 2);
-      m = byteAt bytes (i * 6 + 4);
-      k = byteAt bytes (i * 6 + 5);
+      m = getD bytes (i * 6 + 4) 0;
+      k = getD bytes (i * 6 + 5) 0;
     }
 
 -- of more than 16 jobs the first 16 are read

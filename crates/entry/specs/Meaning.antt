@@ -17,6 +17,7 @@ use Rattle.admission.specs.declared.answer.Admission.{Admission}
 use Rattle.admission.specs.Answer.{toldAdmission}
 use Rattle.admission.specs.Promise.{VerdictPromise}
 use Rattle.place.specs.declared.setting.Setting.{Setting}
+use Rattle.place.specs.Setting.{settingOf}
 use Rattle.place.specs.Sound.{Allowed}
 use Rattle.run.specs.declared.state.State.{State}
 use Rattle.run.specs.declared.answer.Slot.{Slot}
@@ -83,7 +84,7 @@ abbrev pub FillAnswers : Type 0
 FillAnswers =
     (jobs : List ℕ) (l : JobList) → BytesOfList jobs l → (order model : ℕ) (before : List ℕ) (offset n r : ℕ) (after : List ℕ)
     → FillEntryPromise jobs order model before offset n r after
-    → FillTold l (record { order = order; model = model }) before offset n r after
+    → FillTold l (settingOf order model) before offset n r after
 
 -- '14: job bytes not a multiple of 6'
 abbrev pub FillRowFourteen : Type 0

@@ -19,7 +19,7 @@ pub extern "C" fn filbertoss_fill(
     if jobs.len() % 6 != 0 {
         return Refusal::JobBytes.number();
     }
-    let started = run::start(list_from(jobs), Setting { order, model });
+    let started = run::start(list_from(jobs), Setting::of(order, model));
     let start_answer = started.answer;
     let refused = start_answer.number();
     if refused != 0 {

@@ -15,6 +15,18 @@ pub both : (a b : Bool) → (a && b) ≡ true → (a ≡ true) × (b ≡ true)
 both true b e = (refl, e)
 both false b e = absurd (clash refl e)
 
+pub three : (a b c : Bool) → (a && b && c) ≡ true → (a ≡ true) × (b ≡ true) × (c ≡ true)
+three a b c e =
+    let last = both (a && b) c e in
+    let first = both a b (last .0) in
+    (first .0, first .1, last .1)
+
+pub four : (a b c d : Bool) → (a && b && c && d) ≡ true → (a ≡ true) × (b ≡ true) × (c ≡ true) × (d ≡ true)
+four a b c d e =
+    let last = both (a && b && c) d e in
+    let first = three a b c (last .0) in
+    (first .0, first .1, first .2, last .1)
+
 pub allowed-within : (x most : ℕ) → allowed x most ≡ true → Within x most
 allowed-within x most e =
     let tests = both (leb 1 x) (leb x most) e in

@@ -5,7 +5,7 @@ use crate::refusal::Checked;
 use crate::refusal::Refusal;
 
 pub struct JobList {
-    pub jobs: [Job; 16],
+    pub jobs: [Job; JobList::COUNT_MOST],
     pub count: usize,
 }
 
@@ -18,7 +18,7 @@ impl JobList {
         ensures { λ r. ⌜ EmptyPromise count r ⌝ }
     {
         JobList {
-            jobs: [Job::none(); 16],
+            jobs: [Job::none(); JobList::COUNT_MOST],
             count,
         }
     }

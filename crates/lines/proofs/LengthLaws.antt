@@ -7,6 +7,7 @@ use native.Mathlib.Omega.{arith}
 use lib.Dec.{leb, eqb}
 use lib.ListN.{length, getD, length-append}
 use lib.Seq.{length-take-le}
+use Rattle.job.specs.Limit.{countMost}
 use Rattle.job.specs.Told.{Told}
 use Rattle.run.specs.declared.answer.Choice.{Choice}
 use Rattle.run.specs.declared.answer.Choice.the-variants.{Given, Idle}
@@ -55,16 +56,16 @@ value-most t = go (leb 3 (t .number) && leb (t .number) 6) (eqb (t .number) 13)
 pub record SlotMost (n : ℕ) (s : Slot) : Type 0 where
   pub number : length (decimalOf n) ≤ 20
   pub choice : length (choiceText (s .choice)) ≤ 20
-  pub tags : length (setText (ascii " t") (s .tags) 16) ≤ 54
-  pub shorts : length (setText (ascii " s") (s .shorts) 16) ≤ 54
+  pub tags : length (setText (ascii " t") (s .tags) countMost) ≤ 54
+  pub shorts : length (setText (ascii " s") (s .shorts) countMost) ≤ 54
 
 pub slot-most : (n : ℕ) (s : Slot) → SlotMost n s
 slot-most n s =
     record {
       number = decimal-most n;
       choice = choice-most (s .choice);
-      tags = set-most (ascii " t") (s .tags) refl 16 (omega arith);
-      shorts = set-most (ascii " s") (s .shorts) refl 16 (omega arith);
+      tags = set-most (ascii " t") (s .tags) refl countMost (omega arith);
+      shorts = set-most (ascii " s") (s .shorts) refl countMost (omega arith);
     }
 
 pub record TotalsMost (t : Totals) : Type 0 where

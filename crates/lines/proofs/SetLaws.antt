@@ -10,6 +10,7 @@ use native.Mathlib.Omega.{arith}
 use lib.Dec.{eqb}
 use lib.ListN.{length, length-append}
 use borrow.Author.Tests.{eq-eqb, ne-eqb}
+use Rattle.job.specs.Limit.{countMost}
 use Rattle.run.specs.Answer.{member}
 use Rattle.text.specs.Decimal.{decimalOf}
 use Rattle.text.specs.Written.{written}
@@ -37,7 +38,7 @@ module _ (label : List ℕ) (set : ℕ) where
   next n b e = rw e
 
   -- the first n jobs take 3 bytes each, and those from 10 on one more
-  pub set-most : length label ≡ 2 → (n : ℕ) → n ≤ 16 → length (setText label set n) ≤ 3 * n + (n - 10)
+  pub set-most : length label ≡ 2 → (n : ℕ) → n ≤ countMost → length (setText label set n) ≤ 3 * n + (n - 10)
   unfolding setText
   set-most two zero few = omega arith
   set-most two (suc n) few = go (member set n) refl (set-most two n (omega arith))
@@ -52,7 +53,7 @@ module _ (label : List ℕ) (set : ℕ) where
 
 -- one turn of the loop that puts a set
 module _ (label : List ℕ) (set : ℕ) (two : length label ≡ 2) (b₀ : List ℕ) (at : ℕ) (room : at + 80 ≤ length b₀) where
-  module _ (n rest : ℕ) (few : n < 16) (bits : rest ≡ set / 2 ^ n) {b : List ℕ} {end : ℕ} (before : Ends b₀ at (setText label set n) b end) where
+  module _ (n rest : ℕ) (few : n < countMost) (bits : rest ≡ set / 2 ^ n) {b : List ℕ} {end : ℕ} (before : Ends b₀ at (setText label set n) b end) where
     pub has-room : end + length label + 20 ≤ length b
     has-room = omega (arith, ends-length before, set-most label set two n (omega arith))
 

@@ -3,6 +3,7 @@
 use Prim.Native.Nat.{ℕ, zero, suc}
 use mathlib.Core.Bool.{cond}
 use mathlib.Core.List.{List, [], _++_}
+use Rattle.job.specs.Limit.{countMost}
 use Rattle.run.specs.declared.answer.Choice.{Choice}
 use Rattle.run.specs.declared.answer.Choice.the-variants.{Given, Idle}
 use Rattle.run.specs.declared.answer.Slot.{Slot}
@@ -24,4 +25,4 @@ unfoldable pub slotText : ℕ → Slot → List ℕ
 slotText number s =
     decimalOf number
     ++ (ascii " "
-    ++ (choiceText (s .choice) ++ (setText (ascii " t") (s .tags) 16 ++ (setText (ascii " s") (s .shorts) 16 ++ ascii "\n"))))
+    ++ (choiceText (s .choice) ++ (setText (ascii " t") (s .tags) countMost ++ (setText (ascii " s") (s .shorts) countMost ++ ascii "\n"))))

@@ -2,9 +2,11 @@
 ghost use mathlib.Core.Path.{_≡_};
 ghost use Prim.Native.Nat.{_+_, _≤_};
 ghost use lib.ListN.{length};
+ghost use Rattle.job.specs.Limit.{countMost};
 ghost use Rattle.text.specs.Written.{written};
 ghost use Rattle.lines.specs.Slot.{choiceText, setText};
 ghost use Rattle.lines.specs.Parts.{labelled};
+use job::JobList;
 use run::Choice;
 use text::inner::put_decimal;
 use text::inner::put_text;
@@ -35,13 +37,13 @@ pub(crate) fn put_choice(buf: &mut [u8], at: usize, choice: Choice) -> usize
 pub(crate) fn put_set(buf: &mut [u8], at: usize, label: &[u8], set: u16) -> usize
     requires { ⌜ length (now label) ≡ 2 ⌝ }
     requires { ⌜ at + 80 ≤ length (now buf) ⌝ }
-    ensures { λ r. ⌜ r ≡ at + length (setText (now (label .entry)) set 16) ⌝ }
-    ensures { λ r. ⌜ now (buf .exit) ≡ written (now (buf .entry)) at (setText (now (label .entry)) set 16) ⌝ }
+    ensures { λ r. ⌜ r ≡ at + length (setText (now (label .entry)) set countMost) ⌝ }
+    ensures { λ r. ⌜ now (buf .exit) ≡ written (now (buf .entry)) at (setText (now (label .entry)) set countMost) ⌝ }
 {
     let mut end = at;
     let mut rest = set;
     let mut job: usize = 0;
-    while job < 16 {
+    while job < JobList::COUNT_MOST {
         if rest % 2 == 1 {
             end = put_labelled(buf, end, label, job as u64);
         }

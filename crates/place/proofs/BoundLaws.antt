@@ -6,26 +6,23 @@ use Prim.Native.Nat.{ℕ, _+_, _-_, _*_, _/_, _≤_, _<_}
 use native.Mathlib.Nat.{mul-le-mul, mul-le-mul-right, div-lt-iff-lt-mul, mul-comm, div-le-of-le-mul, le-refl}
 use native.Mathlib.Omega.{arith}
 use lib.Dec.{leb, ltb}
-use borrow.Author.Tests.{eqb-true, eqb-false, ltb-true, ltb-false, lt-ltb, le-ltb, leb-true, lt-leb}
+use borrow.Author.Tests.{ltb-true, ltb-false, lt-ltb, le-ltb, leb-true, lt-leb}
 use lib.IntN.{pos, natAbs, _-ℤ_, _*ℤ_}
 use mir.Syntax.{w64}
 use mir.Val.{SFits, toZ, ofZ}
 use mir.Facts.{toZ-ofZ}
-use Rattle.job.specs.Limit.{relaxed, original}
 use Rattle.place.specs.declared.setting.Setting.{Setting}
 use Rattle.place.specs.declared.record.Place.{Place}
+use Rattle.place.specs.declared.inner.choice.Fraction.{Fraction}
 use Rattle.place.specs.declared.inner.choice.Held.{Held}
-use Rattle.place.specs.Setting.{inRelaxed, inOrderV}
+use Rattle.place.specs.Setting.{byUnits, inOrderV}
 use Rattle.place.specs.Sound.{SoundPlace}
-use Rattle.place.specs.Place.{windowLeft, finishedOf, owedOf, eligibleOf, numeratorOf, overdueOf}
-use Rattle.place.specs.Choice.{Small, distanceOf, nearerOf, betterOf, nobody}
+use Rattle.place.specs.Place.{windowLeft, leftOf, finishedOf, owedOf, numeratorOf, overdueOf}
+use Rattle.place.specs.Choice.{Small, SmallHeld, candidateOf, distanceOf, nearerOf, betterOf, nobody}
+use Rattle.place.proofs.CondLaws.{by-test}
 use Rattle.place.proofs.SignedLaws.{abs-sub, abs-mul, abs-fits, small-pos, difference-most}
 
 module _ {setting : Setting} {q : Place} (s : SoundPlace setting q) where
-  -- the model is the relaxed one, or the original
-  pub not-relaxed : (setting .model ≡ relaxed → ⊥) → setting .model ≡ original
-  not-relaxed h = omega (arith, s .model)
-
   pub mc-high : q .job .m * q .job .c ≤ 1044480
   mc-high = mul-le-mul {n₂ = 255} {m₂ = 4096} (omega arith) (omega arith)
 
@@ -34,11 +31,11 @@ module _ {setting : Setting} {q : Place} (s : SoundPlace setting q) where
 
   pub finished-high : finishedOf setting q ≤ q .job .m
   unfolding finishedOf
-  finished-high = go (inRelaxed setting) refl
+  finished-high = go (byUnits setting) refl
     where
-      go : (b : Bool) → inRelaxed setting ≡ b → cond b (q .at .u / q .job .c) (q .at .s) ≤ q .job .m
-      go true e = div-le-of-le-mul (q .job .c) (rw mul-comm (s .in-relaxed (eqb-true (setting .model) relaxed e) .u-m))
-      go false e = s .in-original (not-relaxed (eqb-false (setting .model) relaxed e)) .s-m
+      go : (b : Bool) → byUnits setting ≡ b → cond b (q .at .u / q .job .c) (q .at .s) ≤ q .job .m
+      go true e = div-le-of-le-mul (q .job .c) (rw mul-comm (s .service .u-m))
+      go false e = s .service .s-m
 
   pub owed-high : owedOf setting q ≤ 255
   unfolding owedOf
@@ -54,6 +51,10 @@ module _ {setting : Setting} {q : Place} (s : SoundPlace setting q) where
   window-low =
       omega
       (arith, mul-le-mul {n₁ = 1} {m₁ = q .job .t} {n₂ = q .job .k - q .at .p + 1} {m₂ = q .job .t} (omega arith) (le-refl (q .job .t)))
+
+  pub left-high : leftOf q ≤ 1044480
+  unfolding leftOf
+  left-high = omega (arith, window-high)
 
   pub gone-high : q .at .e * owedOf setting q ≤ 1044480
   gone-high = mul-le-mul {n₂ = 4096} {m₂ = 255} (omega arith) owed-high
@@ -75,7 +76,7 @@ module _ {setting : Setting} {q : Place} (s : SoundPlace setting q) where
       rw (f, g, small-pos hw, small-pos hd)
 
   -- m' > 0, without a division
-  pub lacks-is : (b : Bool) → inRelaxed setting ≡ b → cond b (ltb (q .at .u) (q .job .m * q .job .c)) (ltb (q .at .s) (q .job .m)) ≡ ltb 0 (owedOf setting q)
+  pub lacks-is : (b : Bool) → byUnits setting ≡ b → cond b (ltb (q .at .u) (q .job .m * q .job .c)) (ltb (q .at .s) (q .job .m)) ≡ ltb 0 (owedOf setting q)
   unfolding owedOf finishedOf
   lacks-is true e = rw e (same (ltb (q .at .u) (q .job .m * q .job .c)) refl)
     where
@@ -125,20 +126,14 @@ module _ {setting : Setting} {q : Place} (s : SoundPlace setting q) where
   pub next-high : (q .at .e + 1) * owedOf setting q ≤ 1044480
   next-high = mul-le-mul {n₂ = 4096} {m₂ = 255} (omega arith) owed-high
 
-  pub distance-small : (i : ℕ) → Small (distanceOf setting i q)
+  pub distance-small : Small (distanceOf setting q)
   unfolding distanceOf
-  distance-small i = go (inOrderV setting)
-    where
-      go :
-          (b : Bool)
-          → Small
-          (cond b (record { at = i; num = numeratorOf setting q; den = owedOf setting q })
-          (record { at = i; num = pos (windowLeft q - q .at .e); den = 1 }))
-      go true = record { num-high = numerator-abs; den-high = owed-high }
-      go false = record { num-high = omega (arith, window-high); den-high = omega arith }
+  distance-small =
+      by-test Small (inOrderV setting) (λ e. record { num-high = numerator-abs; den-high = owed-high })
+      (λ e. record { num-high = omega (arith, left-high); den-high = omega arith })
 
 -- the products that two distances are compared by
-module _ {a b : Held} (s : Small a) (t : Small b) where
+module _ {a b : Fraction} (s : Small a) (t : Small b) where
   num-fits : SFits w64 (a .num)
   num-fits = abs-fits (omega (arith, s .num-high))
 
@@ -153,13 +148,12 @@ module _ {a b : Held} (s : Small a) (t : Small b) where
       rw (toZ-ofZ num-fits, small-pos h)
 
 pub better-small :
-    {setting : Setting} {q : Place} {best : Held} → SoundPlace setting q → Small best → (i : ℕ) → Small (betterOf setting best i q)
+    {setting : Setting} {q : Place} (best : Held) → SoundPlace setting q → SmallHeld best → (i : ℕ)
+    → SmallHeld (betterOf setting best i q)
 unfolding betterOf
-better-small {setting} {q} {best} s t i = go (eligibleOf setting q && nearerOf (distanceOf setting i q) best)
-  where
-    go : (b : Bool) → Small (cond b (distanceOf setting i q) best)
-    go true = distance-small s i
-    go false = t
+better-small {setting} {q} best s t i =
+    by-test SmallHeld (candidateOf setting q && nearerOf (distanceOf setting q) (best .away))
+    (λ e. distance-small s) (λ e. t)
 
-pub nobody-small : Small nobody
+pub nobody-small : SmallHeld nobody
 nobody-small = record { num-high = omega arith; den-high = omega arith }

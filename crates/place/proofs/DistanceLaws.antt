@@ -8,7 +8,7 @@ use lib.Dec.{ltb, leb·suc-suc}
 use lib.IntN.{ℤ, pos, negsuc, negℤ, _-ℤ_, _*ℤ_}
 use lib.Signed.{ltZ}
 use borrow.Author.Tests.{ltb-true, ltb-false, lt-ltb, le-ltb}
-use Rattle.place.specs.declared.inner.choice.Held.{Held}
+use Rattle.place.specs.declared.inner.choice.Fraction.{Fraction}
 use Rattle.place.specs.Choice.{nearerOf, nobody}
 
 -- an integer as the difference of two naturals
@@ -64,23 +64,23 @@ ltb-shift x y u v c d e f = go (ltb u v) refl
 
 -- the two sides of a comparison, as naturals: a is nearer than b exactly if `side a b` is less than `side b a`
 
-abbrev pub side : Held → Held → ℕ
+abbrev pub side : Fraction → Fraction → ℕ
 side a b = plus (a .num) * b .den + minus (b .num) * a .den
 
-pub nearer-is : (a b : Held) → nearerOf a b ≡ ltb (side a b) (side b a)
+pub nearer-is : (a b : Fraction) → nearerOf a b ≡ ltb (side a b) (side b a)
 unfolding nearerOf
 nearer-is a b =
     ltZ-is (a .num *ℤ pos (b .den)) (b .num *ℤ pos (a .den))
     ∙ rw (plus-mul (a .num) (b .den), minus-mul (a .num) (b .den), plus-mul (b .num) (a .den), minus-mul (b .num) (a .den))
 
-module _ (a b : Held) where
+module _ (a b : Fraction) where
   pub nearer-back : nearerOf a b ≡ true → nearerOf b a ≡ false
   nearer-back e =
       let h = ltb-true (side a b) (side b a) (sym (nearer-is a b) ∙ e) in
       nearer-is b a ∙ le-ltb (side b a) (side a b) (omega arith)
 
   -- a is nearer than b, and c is not: a is nearer than c
-  pub nearer-through : (c : Held) → 0 < c .den → nearerOf a b ≡ true → nearerOf c b ≡ false → nearerOf a c ≡ true
+  pub nearer-through : (c : Fraction) → 0 < c .den → nearerOf a b ≡ true → nearerOf c b ≡ false → nearerOf a c ≡ true
   nearer-through c some e f =
       let h = ltb-true (side a b) (side b a) (sym (nearer-is a b) ∙ e) in
       let k = ltb-false (side c b) (side b c) (sym (nearer-is c b) ∙ f) in
@@ -89,8 +89,9 @@ module _ (a b : Held) where
       (lt-of-mul-lt-mul-right (b .den)
       (omega (arith, mul-lt-mul-of-pos-right h some, mul-le-mul-right (a .den) k)))
 
-pub nearer-self : (a : Held) → nearerOf a a ≡ false
+pub nearer-self : (a : Fraction) → nearerOf a a ≡ false
 nearer-self a = nearer-is a a ∙ le-ltb (side a a) (side a a) (le-refl (side a a))
 
-pub nobody-farther : (a : Held) → 0 < a .den → nearerOf a nobody ≡ true
-nobody-farther a some = nearer-is a nobody ∙ lt-ltb (side a nobody) (side nobody a) (omega arith)
+pub nobody-farther : (a : Fraction) → 0 < a .den → nearerOf a (nobody .away) ≡ true
+nobody-farther a some =
+    nearer-is a (nobody .away) ∙ lt-ltb (side a (nobody .away)) (side (nobody .away) a) (omega arith)

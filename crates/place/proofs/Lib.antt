@@ -2,7 +2,9 @@
 pub mod CondLaws
 pub mod SignedLaws
 pub mod BoundLaws
-pub mod CaseLaws
+pub mod CounterLaws
 pub mod PlaceLaws
+pub mod RangeLaws
 pub mod DistanceLaws
+pub mod OrderLaws
 pub mod Meaning

@@ -9,7 +9,7 @@ use Rattle.job.proofs.TestLaws.{both}
 use Rattle.place.specs.declared.setting.Setting.{Setting}
 use Rattle.place.specs.Setting.{orderW, settingAllowed}
 use Rattle.place.specs.Sound.{Allowed}
-use Rattle.place.specs.Meaning.{AllowedAnswers, OpenedFirst, BlankZeros}
+use Rattle.place.specs.Meaning.{MadeOfBoth, AllowedAnswers, OpenedFirst, BlankZeros}
 
 pub allowed-exactly : (s : Setting) → (settingAllowed s ≡ true) ↔ Allowed s
 allowed-exactly s = (to, λ a. rw (le-leb (s .order) orderW (a .order), le-leb (s .model) original (a .model)))
@@ -18,6 +18,9 @@ allowed-exactly s = (to, λ a. rw (le-leb (s .order) orderW (a .order), le-leb (
     to e =
         let tests = both (leb (s .order) orderW) (leb (s .model) original) e in
         record { order = leb-true (s .order) orderW (tests .0); model = leb-true (s .model) original (tests .1) }
+
+pub made-of-both : MadeOfBoth
+made-of-both order model r promise = promise
 
 pub allowed-answers : AllowedAnswers
 allowed-answers s r promise = rw promise (allowed-exactly s)

@@ -3,6 +3,7 @@ pub mod Setting
 pub mod Opening
 pub mod Place
 pub mod Choice
+pub mod Range
 pub mod Sound
 pub mod Promise
 pub mod Meaning

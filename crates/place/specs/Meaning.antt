@@ -1,4 +1,4 @@
--- What the test of a setting and the two places that are made are, whatever result their promises allow. Each statement is proved in
+-- What a setting and the two places that are made are, and the test of a setting, whatever result their promises allow. Each statement is proved in
 -- proofs/, under its name.
 use mathlib.Core.Path.{_≡_}
 use mathlib.Core.Logic.{_↔_}
@@ -8,7 +8,11 @@ use Rattle.job.specs.declared.record.Job.{Job}
 use Rattle.place.specs.declared.setting.Setting.{Setting}
 use Rattle.place.specs.declared.record.Place.{Place}
 use Rattle.place.specs.Sound.{Allowed}
-use Rattle.place.specs.Promise.{AllowedPromise, BlankPromise, OpenedPromise}
+use Rattle.place.specs.Promise.{MadePromise, AllowedPromise, BlankPromise, OpenedPromise}
+
+-- a setting of two numbers is these and nothing else
+abbrev pub MadeOfBoth : Type 0
+MadeOfBoth = (order model : ℕ) (r : Setting) → MadePromise order model r → r ≡ record { order = order; model = model }
 
 -- '15: order or model number not 0 or 1'
 abbrev pub AllowedAnswers : Type 0

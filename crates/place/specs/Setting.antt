@@ -1,4 +1,4 @@
--- 'Order 0 is V, 1 is W; model 0 is relaxed, 1 is original.'
+-- 'Order 0 is V, 1 is W; model 0 is relaxed, 1 is original.' How a setting is made, and all that is asked of one.
 use Prim.Native.Nat.{ℕ}
 use mathlib.Core.Bool.{Bool, _&&_}
 use lib.Dec.{leb, eqb}
@@ -11,12 +11,23 @@ orderV = 0
 abbrev pub orderW : ℕ
 orderW = 1
 
+-- a setting of an order and a model, and one with another order or another model
+abbrev pub settingOf : ℕ → ℕ → Setting
+settingOf order model = record { order = order; model = model }
+
+abbrev pub withOrder : Setting → ℕ → Setting
+withOrder s order = record { order = order; model = s .model }
+
+abbrev pub withModel : Setting → ℕ → Setting
+withModel s model = record { order = s .order; model = model }
+
 -- '15: order or model number not 0 or 1'
 abbrev pub settingAllowed : Setting → Bool
 settingAllowed s = leb (s .order) orderW && leb (s .model) original
 
-abbrev pub inRelaxed : Setting → Bool
-inRelaxed s = eqb (s .model) relaxed
+-- how service is kept: by units, u ('Relaxed model'), or by instances, s and v ('Original model')
+abbrev pub byUnits : Setting → Bool
+byUnits s = eqb (s .model) relaxed
 
 abbrev pub inOrderV : Setting → Bool
 inOrderV s = eqb (s .order) orderV

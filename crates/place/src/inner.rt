@@ -1,3 +1,5 @@
-// One slot of one place, behind a range check already made: each function asks for a sound place.
+// One slot of one place, behind a range check already made, and that check. What asks for a sound
+// place says so in its contract.
 pub mod choice;
+pub mod range;
 pub mod service;

@@ -1,6 +1,6 @@
 // How a run is run: its order and its service model, as numbers, so that a state of any content
 // can be handed in and refused.
-ghost use Rattle.place.specs.Promise.{AllowedPromise};
+ghost use Rattle.place.specs.Promise.{MadePromise, AllowedPromise};
 use job::Job;
 
 pub struct Setting {
@@ -13,6 +13,13 @@ impl Setting {
     pub const V: u32 = 0;
 
     pub const W: u32 = 1;
+
+    // A setting of any two numbers.
+    pub fn of(order: u32, model: u32) -> Setting
+        ensures { λ r. ⌜ MadePromise order model r ⌝ }
+    {
+        Setting { order, model }
+    }
 
     // Row 15.
     pub fn allowed(self) -> bool

@@ -14,7 +14,7 @@ use Rattle.admission.proofs.CycleLaws.{cycle-common, cycle-positive, cycle-mult
 use Rattle.admission.proofs.LoadLaws.{load-is, load-exact}
 use Rattle.run.specs.State.{clockMost}
 use Rattle.run.specs.Choice.{chosenOf}
-use Rattle.run.proofs.ChoiceLaws.{at}
+use Rattle.run.proofs.HereLaws.{at}
 use Rattle.promises.specs.DemandThree.{Admits}
 use Rattle.promises.proofs.WorkLaws.{missedOf}
 use Rattle.promises.proofs.OnTimeLaws.{runOf, run-none-missed}

@@ -3,7 +3,7 @@ use mathlib.Core.Path.{_≡_, refl, sym, ap, subst, _∙_}
 use mathlib.Core.List.{List, [], _∷_, _++_}
 use Prim.Native.Nat.{ℕ}
 use lib.ListN.{length}
-use Rattle.place.specs.declared.setting.Setting.{Setting}
+use Rattle.place.specs.Setting.{settingOf}
 use Rattle.run.specs.declared.state.State.{State}
 use Rattle.run.specs.declared.answer.Slot.{Slot}
 use Rattle.run.specs.Answer.{byteOf}
@@ -44,7 +44,7 @@ write-follows l setting jobs allowed slots state run before offset n r after pro
 
 pub fill-follows : FillFollows
 fill-follows jobs l held order model before offset n r after promise zero =
-    let setting : Setting = record { order = order; model = model } in
+    let setting = settingOf order model in
     let told = fill-answers jobs l held order model before offset n r after promise in
     let starts = told .passes .0 zero .0 in
     let fills : FillsRun l setting before offset n after = told .runs zero in

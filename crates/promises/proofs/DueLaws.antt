@@ -8,25 +8,24 @@ use native.Mathlib.Omega.{arith}
 use lib.Dec.{eqb}
 use borrow.Author.Tests.{eq-eqb}
 use Rattle.job.specs.declared.record.Job.{Job}
-use Rattle.job.specs.Limit.{relaxed}
 use Rattle.job.specs.Window.{windowOf}
 use Rattle.admission.specs.Load.{shareOf}
 use Rattle.place.specs.declared.record.Place.{Place}
-use Rattle.place.specs.Setting.{orderW}
-use Rattle.place.specs.Place.{eligibleOf}
+use Rattle.place.specs.Setting.{orderW, byUnits}
+use Rattle.place.specs.Place.{leftOf, eligibleOf}
 use Rattle.run.specs.declared.state.State.{State}
 use Rattle.run.specs.Choice.{chosenOf}
 use Rattle.run.specs.Slot.{turnOf}
 use Rattle.run.specs.Sound.{SoundState}
 use Rattle.job.proofs.TestLaws.{clash}
-use Rattle.place.proofs.PlaceLaws.{moved-job}
-use Rattle.run.proofs.ChoiceLaws.{at, IsEligible, ChoiceView, none-chosen, one-chosen, choice-view, given-exactly, window-order}
+use Rattle.place.proofs.PlaceLaws.{eligible-candidate, moved-job}
+use Rattle.run.proofs.HereLaws.{at, job-sound}
+use Rattle.run.proofs.ChoiceLaws.{ChoiceView, none-chosen, one-chosen, choice-view, window-order}
 use Rattle.run.proofs.KeepLaws.{turn-place}
 use Rattle.run.proofs.TurnLaws.{turn-count}
 use Rattle.rules.specs.Meaning.{sumUpto}
 use Rattle.promises.proofs.SumLaws.{sum-same, sum-most, sum-less, sum-bound, sum-none}
 use Rattle.promises.proofs.AmountLaws.{by-share}
-use Rattle.promises.proofs.WindowLaws.{leftOf}
 use Rattle.promises.proofs.WorkLaws.{serviceOf, dueOf, missedOf, leavesOf, keeps, far, idles, spends}
 
 -- due within D slots, over all places; and the load of their jobs in N slots
@@ -42,6 +41,9 @@ pub record OnTime (N : ℕ) (s : State) : Type 0 where
   pub loaded : loadIn s N ≤ N
   pub bound : (D : ℕ) → N * dueIn s D ≤ loadIn s N * D
 
+abbrev IsEligible : State → ℕ → Type 0
+IsEligible s i = eligibleOf (s .setting) (at s i) ≡ true
+
 -- all that an order has to promise of place a, which it serves: no place is eligible, or a is and no eligible window ends sooner
 data Soonest (s : State) (a : ℕ) : Type 0 where
   none-eligible : ((i : ℕ) → i < s .count → eligibleOf (s .setting) (at s i) ≡ false) → Soonest s a
@@ -49,16 +51,23 @@ data Soonest (s : State) (a : ℕ) : Type 0 where
       a < s .count → IsEligible s a
       → ((i : ℕ) → i < s .count → IsEligible s i → leftOf (at s a) ≤ leftOf (at s i)) → Soonest s a
 
-window-soonest : (s : State) → SoundState s → s .setting .order ≡ orderW → Soonest s (chosenOf s)
-unfolding leftOf
-window-soonest s sound order = go (chosenOf s) (choice-view s)
+not-so : (b : Bool) → (b ≡ true → ⊥) → b ≡ false
+not-so true wrong = absurd (wrong refl)
+not-so false wrong = refl
+
+window-soonest : (s : State) → s .setting .order ≡ orderW → Soonest s (chosenOf s)
+window-soonest s order = go (chosenOf s) (choice-view s)
   where
     go : (a : ℕ) → ChoiceView s a → Soonest s a
-    go a (none-chosen none) = none-eligible none
-    go a (one-chosen j c) =
-        first-ending (c .listed) (c .is-eligible) (window-order s sound order j (given-exactly s sound j .1 c))
+    go a (none-chosen none) =
+        none-eligible (λ i h. not-so _ (λ e. clash (none i h) (eligible-candidate (s .setting) (at s i) e)))
+    go a (one-chosen j c) = by (eligibleOf (s .setting) (at s j)) refl
+      where
+        by : (b : Bool) → eligibleOf (s .setting) (at s j) ≡ b → Soonest s j
+        by true e = first-ending (c .listed) e (λ i h f. window-order s order c i h f .1)
+        by false e = none-eligible (λ i h. not-so _ (λ f. clash e (window-order s order c i h f .0)))
 
-module _ (N : ℕ) (s : State) (sound : SoundState s) (model : s .setting .model ≡ relaxed) (time : OnTime N s) where
+module _ (N : ℕ) (s : State) (sound : SoundState s) (units : byUnits (s .setting) ≡ true) (time : OnTime N s) where
   -- what the slot leaves of place i, if place a is served
   abbrev leaves : ℕ → ℕ → ℕ → ℕ
   leaves a D i = leavesOf (s .setting) (at s i) (eqb i a) D
@@ -76,8 +85,8 @@ module _ (N : ℕ) (s : State) (sound : SoundState s) (model : s .setting .model
       share :
           (i : ℕ) → i < s .count → (b : Bool) → eligibleOf (s .setting) (at s i) ≡ b
           → leaves a D i * windowOf (at s i .job) ≤ serviceOf (at s i .job) * D
-      share i h true e = rw (far (sound .places i h) model (eqb i a) D (late i h e)) (omega arith)
-      share i h false e = idles (sound .places i h) model (eqb i a) D e
+      share i h true e = rw (far (job-sound sound i h) units (eqb i a) D (late i h e)) (omega arith)
+      share i h false e = idles (job-sound sound i h) units (eqb i a) D e
 
   slot-leaves : (a : ℕ) → Soonest s a → (D : ℕ) → N * sumUpto (leaves a D) (s .count) ≤ loadIn s N * D
   slot-leaves a (none-eligible none) D = calm a D (λ i h e. absurd (clash (none i h) e))
@@ -86,9 +95,9 @@ module _ (N : ℕ) (s : State) (sound : SoundState s) (model : s .setting .model
       go : Dec (leftOf (at s a) ≤ D + 1) → N * sumUpto (leaves a D) (s .count) ≤ loadIn s N * D
       go (yes soon) =
           let spent : leaves a D a + 1 ≤ dueOf (at s a) (D + 1) =
-          rw (eq-eqb a a refl) (spends (sound .places a listed) model D eligible soon) in
+          rw (eq-eqb a a refl) (spends (job-sound sound a listed) units D eligible soon) in
           let less : sumUpto (leaves a D) (s .count) + 1 ≤ dueIn s (D + 1) =
-          sum-less (s .count) a listed (λ i h. keeps (sound .places i h) model (eqb i a) D) spent in
+          sum-less (s .count) a listed (λ i h. keeps (job-sound sound i h) units (eqb i a) D) spent in
           omega (arith, mul-le-mul-left N less, time .bound (D + 1), time .loaded)
       go (no late) = calm a D (λ i h e. omega (arith, sooner i h e))
 
@@ -105,7 +114,7 @@ module _ (N : ℕ) (s : State) (sound : SoundState s) (model : s .setting .model
     same-load = rw (turn-count s) (sum-same (s .count) (λ i h. ap (λ (j : Job). shareOf j N) (same-job i h)))
 
     within-load : (D : ℕ) → N * sumUpto (leaves (chosenOf s) D) (s .count) ≤ loadIn s N * D
-    within-load = slot-leaves (chosenOf s) (window-soonest s sound order)
+    within-load = slot-leaves (chosenOf s) (window-soonest s order)
 
     due-after : (D : ℕ) → dueIn after D ≤ sumUpto (leaves (chosenOf s) D) (s .count)
     due-after D = rw (turn-count s) (sum-most (s .count) (λ i h. rw (turn-place s sound i h) (omega arith)))

@@ -1,5 +1,6 @@
 -- A run in window order from the fresh state of a list is on time: no window of it misses any of its service.
 use mathlib.Core.Path.{_≡_, refl, sym, ap, _∙_}
+use mathlib.Core.Bool.{true}
 use mathlib.Core.List.{List}
 use Prim.Native.Nat.{ℕ, zero, suc, _+_, _*_, _/_, min, _≤_, _<_}
 use native.Mathlib.Nat.{mul-le-mul-left, div-mul-le-self, div-mul-cancel}
@@ -7,7 +8,7 @@ use native.Mathlib.Omega.{arith}
 use lib.Dec.{eqb}
 use Rattle.job.specs.declared.record.Job.{Job}
 use Rattle.job.specs.declared.list.JobList.{JobList}
-use Rattle.job.specs.Limit.{countMost, relaxed}
+use Rattle.job.specs.Limit.{countMost}
 use Rattle.job.specs.Check.{jobAt}
 use Rattle.job.specs.Sound.{SoundList}
 use Rattle.job.specs.Window.{windowOf}
@@ -15,7 +16,7 @@ use Rattle.admission.specs.Load.{shareOf, loadUpto, loadOf}
 use Rattle.admission.specs.Judged.{CommonMultiple}
 use Rattle.place.specs.declared.setting.Setting.{Setting}
 use Rattle.place.specs.declared.record.Place.{Place}
-use Rattle.place.specs.Setting.{orderW}
+use Rattle.place.specs.Setting.{orderW, byUnits}
 use Rattle.place.specs.Sound.{Allowed}
 use Rattle.place.specs.Opening.{opened}
 use Rattle.run.specs.declared.state.State.{State}
@@ -23,7 +24,7 @@ use Rattle.run.specs.State.{clockMost, freshOf}
 use Rattle.run.specs.Choice.{chosenOf}
 use Rattle.run.specs.Sound.{SoundState}
 use Rattle.run.specs.Run.{afterSlots}
-use Rattle.run.proofs.ChoiceLaws.{at}
+use Rattle.run.proofs.HereLaws.{at}
 use Rattle.promises.specs.DemandThree.{windowOrder}
 use Rattle.run.proofs.FreshLaws.{fresh-at, fresh-sound}
 use Rattle.run.proofs.RunLaws.{after-setting, after-count, after-sound}
@@ -85,8 +86,8 @@ abbrev pub runOf : JobList → ℕ → State
 runOf l n = afterSlots (freshOf l windowOrder) n
 
 module _ (l : JobList) where
-  pub run-model : (n : ℕ) → runOf l n .setting .model ≡ relaxed
-  run-model n = ap (λ (x : Setting). x .model) (after-setting (freshOf l windowOrder) n)
+  pub run-units : (n : ℕ) → byUnits (runOf l n .setting) ≡ true
+  run-units n = ap byUnits (after-setting (freshOf l windowOrder) n)
 
   run-order : (n : ℕ) → runOf l n .setting .order ≡ orderW
   run-order n = ap (λ (x : Setting). x .order) (after-setting (freshOf l windowOrder) n)
@@ -103,11 +104,11 @@ module _ (l : JobList) where
       unfolding afterSlots
       run-on-time zero high = fresh-on-time l windowOrder sound N common fits
       run-on-time (suc n) high =
-          on-time-next N (runOf l n) (run-sound n (omega arith)) (run-model n) (run-on-time n (omega arith)) (run-order n)
+          on-time-next N (runOf l n) (run-sound n (omega arith)) (run-units n) (run-on-time n (omega arith)) (run-order n)
 
       pub run-none-missed :
           0 < N → (n : ℕ) → n ≤ clockMost → (i : ℕ) → i < l .count
           → missedOf (at (runOf l n) i) (eqb i (chosenOf (runOf l n))) ≡ 0
       run-none-missed some n high i listed =
-          none-missed N (runOf l n) (run-sound n high) (run-model n) (run-on-time n high) (run-order n) some i
+          none-missed N (runOf l n) (run-sound n high) (run-units n) (run-on-time n high) (run-order n) some i
           (run-listed n listed)

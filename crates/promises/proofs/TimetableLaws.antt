@@ -1,9 +1,10 @@
 -- The choices of a run in window order, read as a timetable: the slots of a job in its window, and when the window ends.
 use mathlib.Core.Path.{_≡_, refl, sym, ap, _∙_}
-use mathlib.Core.Bool.{Bool, true, _&&_, cond}
+use mathlib.Core.Bool.{Bool, true, cond}
 use mathlib.Core.List.{List, [], _∷_}
 use Prim.Native.Nat.{ℕ, _+_, _-_, _*_, _%_, _≤_, _<_}
 use native.Mathlib.Nat.{mul-comm}
+use native.Mathlib.Numerals.{add-one}
 use native.Mathlib.Omega.{arith}
 use lib.Dec.{eqb}
 use lib.ListN.{length, take, drop}
@@ -12,26 +13,26 @@ use borrow.Author.Tests.{eq-eqb}
 use Rattle.job.specs.declared.record.Job.{Job}
 use Rattle.job.specs.declared.list.JobList.{JobList}
 use Rattle.job.specs.Check.{jobAt}
-use Rattle.job.specs.Sound.{SoundJob, SoundList}
+use Rattle.job.specs.Sound.{SoundList}
 use Rattle.job.specs.Window.{windowOf}
-use Rattle.place.specs.declared.setting.Setting.{Setting}
 use Rattle.place.specs.declared.record.Place.{Place}
 use Rattle.place.specs.Place.{windowEnds}
 use Rattle.run.specs.State.{clockMost, freshOf}
 use Rattle.run.specs.Sound.{SoundState}
 use Rattle.run.specs.Run.{choicesOf}
 use Rattle.rules.specs.Rules.{slotsOf, sinceWindow, periodsBegun}
-use Rattle.run.proofs.ChoiceLaws.{at}
+use Rattle.run.proofs.HereLaws.{at, job-sound}
 use Rattle.promises.specs.DemandThree.{windowOrder}
 use Rattle.rules.proofs.BytesLaws.{countIn-more}
-use Rattle.rules.proofs.CycleLaws.{Tick, nothing-ends, period-ends, window-ends, tick}
+use Rattle.rules.proofs.CycleLaws.{cycle-ends}
 use Rattle.run.proofs.TurnLaws.{nextByte, byte-at, byte-fair}
 use Rattle.run.proofs.RunLaws.{choices-more, choices-long}
 use Rattle.rules.proofs.HistoryLaws.{PlaceHistory}
-use Rattle.rules.proofs.RunLaws.{places-told}
+use Rattle.rules.proofs.PlaceLaws.{ends-told}
+use Rattle.rules.proofs.RunLaws.{place-sound, places-told}
 use Rattle.promises.proofs.WindowLaws.{usedOf, used-most}
 use Rattle.promises.proofs.WorkLaws.{serviceOf, missedOf, missed-over}
-use Rattle.promises.proofs.OnTimeLaws.{window-allowed, runOf, run-model, run-listed, run-sound}
+use Rattle.promises.proofs.OnTimeLaws.{window-allowed, runOf, run-units, run-listed, run-sound}
 use Rattle.promises.proofs.AdmittedLaws.{Holds, admitted-none-missed}
 
 -- the choices of the run
@@ -44,23 +45,6 @@ part-of-front n m bytes h =
     sym
     (ap (drop n) (take-add n m bytes)
     ∙ drop-at (take n bytes) (take m (drop n bytes)) n (length-take-le n bytes h))
-
--- the window that a job's place is in ends with slot n
-window-ends-told :
-    {setting : Setting} {job : Job} {j n : ℕ} {bytes : List ℕ} (q : Place) → SoundJob job
-    → PlaceHistory setting job j n bytes q → n % windowOf job + 1 ≡ windowOf job → windowEnds q ≡ true
-unfolding windowEnds
-window-ends-told {job = job} {n = n} q sound history closes = go (tick (job .t) (job .k) n (sound .t .low) (sound .k .low))
-  where
-    go : Tick (job .t) (job .k) n → (eqb (q .at .e + 1) (q .job .t) && eqb (q .at .p) (q .job .k)) ≡ true
-    go (nothing-ends inside stays same) = absurd (omega arith)
-    go (period-ends ends stays within one-more) = absurd (omega arith)
-    go (window-ends ends whole last first) =
-        rw (
-          history .same-job,
-          eq-eqb (q .at .e + 1) (job .t) (omega (arith, history .e-is)),
-          eq-eqb (q .at .p) (job .k) (history .p-is ∙ last),
-        )
 
 module _ (l : JobList) (sound : SoundList l) (i : ℕ) (listed : i < l .count) (n : ℕ) (below : n < clockMost) where
   abbrev job : Job
@@ -92,14 +76,18 @@ module _ (l : JobList) (sound : SoundList l) (i : ℕ) (listed : i < l .count) (
       let here : i < runOf l n .count = run-listed l n listed in
       let c-same : place .job .c ≡ job .c = ap (λ (j : Job). j .c) (place-told .same-job) in
       rw (slots-told, mul-comm (job .c) (periodsBegun job n), ← c-same, ← place-told .p-is)
-      (used-most (now .places i here) (run-model l n) chosen (byte-fair (runOf l n) now i here))
+      (used-most (job-sound now i here) (run-units l n) chosen (byte-fair (runOf l n) now i here))
 
   -- and at least m times C where the window ends
   pub slots-full :
       Holds l → n % windowOf job + 1 ≡ windowOf job → serviceOf job ≤ slotsOf i (sinceWindow job n (runBytes l (n + 1)))
   slots-full holds closes =
       let now : SoundState (runOf l n) = run-sound l sound n (omega arith) in
-      let over : windowEnds place ≡ true = window-ends-told place (sound .jobs i listed) place-told closes in
+      let here = place-sound l windowOrder sound window-allowed n (omega arith) i listed in
+      let next : (n + 1) % windowOf job ≡ 0 = ap (_% windowOf job) (add-one n) ∙ cycle-ends (windowOf job) n closes in
+      let over : windowEnds place ≡ true =
+      ends-told windowOrder job i n (runBytes l n) place place-told here (sound .jobs i listed) (choices-long (freshOf l windowOrder) n)
+      ∙ eq-eqb ((n + 1) % windowOf job) 0 next in
       let none : missedOf place chosen ≡ 0 =
       rw (byte-at (runOf l n) now i (run-listed l n listed)) (admitted-none-missed l holds n (omega arith) i listed) in
       rw (slots-told, ← place-told .same-job) (omega (arith, missed-over place chosen over))

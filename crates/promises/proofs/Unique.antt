@@ -50,6 +50,7 @@ admission-unique =
 pub run-unique : RunUnique
 run-unique =
     record {
+      made = λ order model. fixed _;
       allowed = λ s. fixed _;
       blank = fixed _;
       opened = λ j. fixed _;

@@ -1,4 +1,4 @@
--- One place of the relaxed model over one slot: it stays in its window, or its window ends.
+-- One place whose service is kept by units, over one slot: it stays in its window, or its window ends.
 use mathlib.Core.Path.{_≡_, refl, ap}
 use mathlib.Core.Bool.{Bool, true, false, cond}
 use mathlib.Core.Logic.{_⊎_, inl, inr}
@@ -7,21 +7,18 @@ use native.Mathlib.Decide.{decLt}
 use native.Mathlib.Omega.{arith}
 use borrow.Author.Tests.{eq-eqb, ne-eqb, lt-ltb}
 use Rattle.job.specs.declared.record.Job.{Job}
-use Rattle.job.specs.Limit.{relaxed}
 use Rattle.job.specs.Sound.{SoundJob}
 use Rattle.job.specs.Window.{windowOf}
 use Rattle.place.specs.declared.setting.Setting.{Setting}
 use Rattle.place.specs.declared.record.Place.{Place}
 use Rattle.place.specs.Opening.{opened}
-use Rattle.place.specs.Place.{windowLeft, eligibleOf, overdueOf, workedOf, windowEnds, movedOf}
+use Rattle.place.specs.Setting.{byUnits}
+use Rattle.place.specs.Place.{windowLeft, leftOf, eligibleOf, workedOf, windowEnds, movedOf}
+use Rattle.place.specs.Choice.{candidateOf}
 use Rattle.place.specs.Sound.{SoundPlace}
 use Rattle.job.proofs.TestLaws.{clash}
-use Rattle.place.proofs.PlaceLaws.{eligible-relaxed}
-use Rattle.run.proofs.CounterLaws.{Served, worked, turned-on, turned-period, turned-window}
-
--- 'k'T − e slots away': the slots until the window ends
-unfoldable pub leftOf : Place → ℕ
-leftOf q = windowLeft q - q .at .e
+use Rattle.place.proofs.PlaceLaws.{candidate-units}
+use Rattle.place.proofs.CounterLaws.{Served, worked, turned-on, turned-period, turned-window}
 
 -- the slots given in the open window, this one counted
 abbrev pub usedOf : Place → Bool → ℕ
@@ -45,10 +42,10 @@ pub record Ends (q r : Place) : Type 0 where
 
 -- a place that is not eligible has had all its slots, or C for each period begun
 pub not-eligible :
-    (setting : Setting) (q : Place) → setting .model ≡ relaxed → eligibleOf setting q ≡ false
+    (setting : Setting) (q : Place) → byUnits setting ≡ true → eligibleOf setting q ≡ false
     → (q .job .m * q .job .c ≤ q .at .u) ⊎ (q .at .p * q .job .c ≤ q .at .u)
 unfolding eligibleOf
-not-eligible setting q model e = go (decLt (q .at .u) (q .job .m * q .job .c)) (decLt (q .at .u) (q .at .p * q .job .c))
+not-eligible setting q units e = go (decLt (q .at .u) (q .job .m * q .job .c)) (decLt (q .at .u) (q .at .p * q .job .c))
   where
     go :
         Dec (q .at .u < q .job .m * q .job .c) → Dec (q .at .u < q .at .p * q .job .c)
@@ -57,7 +54,7 @@ not-eligible setting q model e = go (decLt (q .at .u) (q .job .m * q .job .c)) (
         absurd
         (clash e
         (rw (
-          eq-eqb (setting .model) relaxed model,
+          units,
           lt-ltb (q .at .u) (q .job .m * q .job .c) m,
           lt-ltb (q .at .u) (q .at .p * q .job .c) p,
         )))
@@ -90,20 +87,20 @@ module _ {setting : Setting} {q : Place} (sound : SoundPlace setting q) where
   unfolding leftOf windowLeft
   left-more = omega (arith, sound .e-high)
 
-  -- only an eligible place is given a slot, so its slots stay within C for each period begun
+  -- only a candidate is given a slot, so its slots stay within C for each period begun
   pub used-most :
-      setting .model ≡ relaxed → (chosen : Bool) → (chosen ≡ true → eligibleOf setting q ≡ true)
+      byUnits setting ≡ true → (chosen : Bool) → (chosen ≡ true → candidateOf setting q ≡ true)
       → usedOf q chosen ≤ q .at .p * q .job .c
-  used-most model true fair = omega (arith, eligible-relaxed setting q model (fair refl) .1)
-  used-most model false fair = sound .in-relaxed model .u-p
+  used-most units true fair = omega (arith, candidate-units setting q units (fair refl))
+  used-most units false fair = sound .service .by-units units .u-p
 
-  module _ (model : setting .model ≡ relaxed) (chosen : Bool) where
+  module _ (units : byUnits setting ≡ true) (chosen : Bool) where
     -- the place when its slot was given, or not
     abbrev given : Place
-    given = workedOf setting q chosen (overdueOf setting q)
+    given = workedOf setting q chosen
 
     served : Served setting q chosen given
-    served = worked setting q chosen (overdueOf setting q)
+    served = worked setting q chosen
 
     t-given : given .job .t ≡ q .job .t
     t-given = ap (λ (x : Job). x .t) (served .same-job)
@@ -124,7 +121,7 @@ module _ {setting : Setting} {q : Place} (sound : SoundPlace setting q) where
             (record {
               same-job = served .same-job;
               one-less = rw (served .same-job, served .same-e, served .same-p) (omega (arith, sound .period .high));
-              used = served .u-more model;
+              used = served .u-more units;
               open-still = rw (ne-eqb (q .at .e + 1) (q .job .t) (omega arith));
             }))
         go (no ends) (yes more) =
@@ -137,7 +134,7 @@ module _ {setting : Setting} {q : Place} (sound : SoundPlace setting q) where
               one-less =
                   rw (served .same-job, served .same-p)
                   (next-period-left (q .job .k) (q .at .p) (q .job .t) (q .at .e) last more);
-              used = served .u-more model;
+              used = served .u-more units;
               open-still = rw (eq-eqb (q .at .e + 1) (q .job .t) last, ne-eqb (q .at .p) (q .job .k) (omega arith));
             }))
         go (no ends) (no more) =

@@ -1,4 +1,4 @@
--- The work of a place of the relaxed model due within D slots, and what one slot leaves of it.
+-- The work of a place whose service is kept by units, due within D slots, and what one slot leaves of it.
 use mathlib.Core.Path.{_≡_, refl, _∙_}
 use mathlib.Core.Bool.{Bool, true, false, cond}
 use mathlib.Core.Logic.{_⊎_, inl, inr}
@@ -6,18 +6,18 @@ use Prim.Native.Nat.{ℕ, _+_, _-_, _*_, _/_, _≤_, _<_}
 use native.Mathlib.Nat.{add-zero, sub-zero, mul-le-mul-left, div-mul-le-self}
 use native.Mathlib.Omega.{arith}
 use Rattle.job.specs.declared.record.Job.{Job}
-use Rattle.job.specs.Limit.{relaxed}
 use Rattle.job.specs.Sound.{SoundJob}
 use Rattle.job.specs.Window.{windowOf}
 use Rattle.place.specs.declared.setting.Setting.{Setting}
 use Rattle.place.specs.declared.record.Place.{Place}
 use Rattle.place.specs.Opening.{opened}
-use Rattle.place.specs.Place.{eligibleOf, windowEnds, movedOf}
+use Rattle.place.specs.Setting.{byUnits}
+use Rattle.place.specs.Place.{leftOf, eligibleOf, windowEnds, movedOf}
 use Rattle.place.specs.Sound.{SoundPlace}
 use Rattle.admission.proofs.CycleLaws.{window-positive}
-use Rattle.place.proofs.PlaceLaws.{eligible-relaxed}
+use Rattle.place.proofs.PlaceLaws.{eligible-units}
 use Rattle.promises.proofs.AmountLaws.{amount, amount-in, amount-out, amount-shift, amount-more, amount-new, amount-last, amount-bound, lack-within-share}
-use Rattle.promises.proofs.WindowLaws.{leftOf, usedOf, Stays, Ends, opened-left, not-eligible, left-more, moved-view}
+use Rattle.promises.proofs.WindowLaws.{usedOf, Stays, Ends, opened-left, not-eligible, left-more, moved-view}
 
 -- 'm times C units per window'
 abbrev pub serviceOf : Job → ℕ
@@ -75,7 +75,7 @@ module _ (q : Place) (chosen : Bool) where
     ends-due : Ends q r → SoundJob (q .job) → dueOf r D + missedOf q chosen ≡ D / windowOf (q .job) * serviceOf (q .job) + lack
     ends-due s sound = rw (due-opening r D sound (s .same-job) (s .whole) (s .unused), missed-over (s .over))
 
-module _ {setting : Setting} {q : Place} (sound : SoundPlace setting q) (model : setting .model ≡ relaxed) where
+module _ {setting : Setting} {q : Place} (sound : SoundPlace setting q) (units : byUnits setting ≡ true) where
   abbrev window : ℕ
   window = windowOf (q .job)
 
@@ -86,7 +86,7 @@ module _ {setting : Setting} {q : Place} (sound : SoundPlace setting q) (model :
   idle-lack :
       (chosen : Bool) (left : ℕ) → eligibleOf setting q ≡ false → (q .job .k - q .at .p) * q .job .t ≤ left
       → lack q chosen * window ≤ service * left
-  idle-lack chosen left e rest = go (not-eligible setting q model e)
+  idle-lack chosen left e rest = go (not-eligible setting q units e)
     where
       go : (service ≤ q .at .u) ⊎ (q .at .p * q .job .c ≤ q .at .u) → lack q chosen * window ≤ service * left
       go (inl done) =
@@ -104,7 +104,7 @@ module _ {setting : Setting} {q : Place} (sound : SoundPlace setting q) (model :
     View = Stays q chosen (movedOf setting q chosen .place) ⊎ Ends q (movedOf setting q chosen .place)
 
     view : View
-    view = moved-view sound model chosen
+    view = moved-view sound units chosen
 
     -- a slot never adds to what is due
     pub keeps : leaves ≤ dueOf q (D + 1)
@@ -147,7 +147,7 @@ module _ {setting : Setting} {q : Place} (sound : SoundPlace setting q) (model :
   spends D eligible soon = go (view true D)
     where
       some : q .at .u < service
-      some = eligible-relaxed setting q model eligible .0
+      some = eligible-units setting q units eligible .0
 
       go : View true D → leavesOf setting q true D + 1 ≤ dueOf q (D + 1)
       go (inl s) =

@@ -8,6 +8,7 @@ use Rattle.job.specs.declared.list.JobList.{JobList}
 use Rattle.job.specs.declared.refusal.Checked.the-variants.{Passed}
 use Rattle.job.specs.Sound.{SoundList}
 use Rattle.place.specs.declared.setting.Setting.{Setting}
+use Rattle.place.specs.Setting.{settingOf}
 use Rattle.place.specs.Sound.{Allowed}
 use Rattle.run.specs.declared.state.State.{State}
 use Rattle.run.specs.declared.answer.Slot.{Slot}
@@ -44,4 +45,4 @@ abbrev pub FillFollows : Type 0
 FillFollows =
     (jobs : List ℕ) (l : JobList) → BytesOfList jobs l → (order model : ℕ) (before : List ℕ) (offset n r : ℕ) (after : List ℕ)
     → FillEntryPromise jobs order model before offset n r after → r ≡ 0
-    → FillKeeps l (record { order = order; model = model }) offset n after
+    → FillKeeps l (settingOf order model) offset n after

@@ -9,7 +9,7 @@ use Rattle.job.specs.Limit.{countMost, relaxed, original}
 use Rattle.job.specs.Told.{Told, row}
 use Rattle.job.specs.Check.{noJob}
 use Rattle.admission.specs.Verdict.{verdictTold}
-use Rattle.place.specs.Setting.{orderV, orderW}
+use Rattle.place.specs.Setting.{orderV, orderW, settingOf}
 use Rattle.run.specs.declared.state.State.{State}
 use Rattle.run.specs.Step.{startState, stepTold, stepState}
 
@@ -37,7 +37,7 @@ listed jobs = record { jobs = jobs ++ replicate (countMost - length jobs) noJob;
 abbrev pub worked : Case → Shown
 worked c =
     record {
-      slots = answersOf (startState (listed (c .jobs)) (record { order = c .order; model = c .model })) (length (c .shown .slots));
+      slots = answersOf (startState (listed (c .jobs)) (settingOf (c .order) (c .model))) (length (c .shown .slots));
       verdict = verdictTold (listed (c .jobs)) (c .model);
     }
 

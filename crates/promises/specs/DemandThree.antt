@@ -13,6 +13,7 @@ use Rattle.admission.specs.declared.answer.Admission.the-variants.{Admitted}
 use Rattle.admission.specs.Promise.{VerdictPromise}
 use Rattle.admission.specs.Judged.{LeastCommonMultiple}
 use Rattle.place.specs.declared.setting.Setting.{Setting}
+use Rattle.place.specs.Setting.{settingOf}
 use Rattle.run.specs.declared.state.State.{State}
 use Rattle.run.specs.declared.answer.Slot.{Slot}
 use Rattle.run.specs.Calls.{Run, bytesOf}
@@ -43,7 +44,7 @@ AnswerExactlyIfTimetable =
 
 -- the second half: 'run in window order from slot 0', where 'order .. 1 is W; model 0 is relaxed'
 abbrev pub windowOrder : Setting
-windowOrder = record { order = 1; model = 0 }
+windowOrder = settingOf 1 0
 
 -- no slot of a run of an admitted list tells a short window, and none is counted; there are runs up to the clock's limit (`RunExists` of rules)
 abbrev pub NeverShort : Type 0

@@ -11,7 +11,7 @@ use Rattle.job.specs.Promise.{NonePromise, JobCheckPromise, EmptyPromise, ListC
 use Rattle.admission.specs.declared.answer.Admission.{Admission}
 use Rattle.admission.specs.Promise.{AdmissionNumberPromise, CyclePromise, LoadPromise, DivisorPromise, VerdictPromise, AdmitPromise, AdmitFirstPromise}
 use Rattle.place.specs.declared.setting.Setting.{Setting}
-use Rattle.place.specs.Promise.{AllowedPromise, BlankPromise, OpenedPromise}
+use Rattle.place.specs.Promise.{MadePromise, AllowedPromise, BlankPromise, OpenedPromise}
 use Rattle.run.specs.declared.state.State.{State}
 use Rattle.run.specs.declared.state.Totals.{Totals}
 use Rattle.run.specs.declared.answer.Slot.{Slot}
@@ -51,6 +51,7 @@ pub record AdmissionUnique : Type 0 where
 
 -- `Setting`, `Place`, `State`, `start`, `step`
 pub record RunUnique : Type 0 where
+  pub made : (order model : ℕ) → Unique (MadePromise order model)
   pub allowed : (s : Setting) → Unique (AllowedPromise s)
   pub blank : Unique BlankPromise
   pub opened : (j : Job) → Unique (OpenedPromise j)

@@ -1,4 +1,4 @@
--- The counters of one place, told by the list of choices: at the opening of its window, and one slot on.
+-- The counters of one place, told by the choices since it was opened: at the opening of its window, and one slot on.
 use mathlib.Core.Path.{_≡_, refl, sym, ap, subst, _∙_}
 use mathlib.Core.Bool.{Bool, true, false, cond}
 use mathlib.Core.List.{List, [], _∷_, _++_}
@@ -10,39 +10,41 @@ use lib.ListN.{length, drop, length-append, length-drop}
 use lib.Seq.{drop-drop, drop-append-le}
 use borrow.Author.Tests.{eqb-true, eqb-false, le-leb, lt-leb}
 use Rattle.job.specs.declared.record.Job.{Job}
-use Rattle.job.specs.Limit.{relaxed, original}
 use Rattle.job.specs.Sound.{SoundJob}
 use Rattle.job.specs.Window.{windowOf}
 use Rattle.place.specs.declared.setting.Setting.{Setting}
 use Rattle.place.specs.declared.record.Place.{Place}
 use Rattle.place.specs.Opening.{opened}
-use Rattle.place.specs.Place.{eligibleOf, overdueOf, workedOf, turnedOf, movedOf}
+use Rattle.place.specs.Setting.{byUnits}
+use Rattle.place.specs.Place.{workedOf, turnedOf, movedOf}
+use Rattle.place.specs.Choice.{candidateOf}
 use Rattle.place.specs.Sound.{SoundPlace}
 use Rattle.rules.specs.Rules.{slotsOf, finishedIn, periodStart, sinceWindow, periodsBegun}
-use Rattle.place.proofs.PlaceLaws.{eligible-original}
+use Rattle.place.proofs.CounterLaws.{Served, worked, turned-on, turned-period, turned-window}
+use Rattle.place.proofs.PlaceLaws.{candidate-instances}
 use Rattle.rules.proofs.BytesLaws.{countIn-none, countIn-more, finished-none, finished-append, finished-open, finished-empty}
 use Rattle.rules.proofs.CycleLaws.{Tick, nothing-ends, period-ends, window-ends, cycle-goes-on, cycle-ends, since-goes-on, since-none, window-split, tick}
-use Rattle.run.proofs.CounterLaws.{Served, worked, turned-on, turned-period, turned-window}
 
 -- the bytes of the open period
 abbrev pub sincePeriod : Job → ℕ → List ℕ → List ℕ
 sincePeriod job n bytes = drop (periodStart job n) bytes
 
--- place q of job number j after n slots of the choices `bytes`
+-- place q of job number j, n slots after it was opened; `bytes` are the choices since then. In a run of a list every place is opened at slot
+-- 0, so that n is the clock and `bytes` all choices.
 pub record PlaceHistory (setting : Setting) (job : Job) (j n : ℕ) (bytes : List ℕ) (q : Place) : Type 0 where
   pub same-job : q .job ≡ job
   pub e-is : q .at .e ≡ n % job .t
   pub p-is : q .at .p ≡ periodsBegun job n
-  pub u-is : setting .model ≡ relaxed → q .at .u ≡ slotsOf j (sinceWindow job n bytes)
-  pub v-is : setting .model ≡ original → q .at .v ≡ slotsOf j (sincePeriod job n bytes)
-  pub s-is : setting .model ≡ original → q .at .s ≡ finishedIn job j (sinceWindow job n bytes) (periodsBegun job n)
+  pub u-is : byUnits setting ≡ true → q .at .u ≡ slotsOf j (sinceWindow job n bytes)
+  pub v-is : byUnits setting ≡ false → q .at .v ≡ slotsOf j (sincePeriod job n bytes)
+  pub s-is : byUnits setting ≡ false → q .at .s ≡ finishedIn job j (sinceWindow job n bytes) (periodsBegun job n)
 
 -- what a place has had of its window, by the bytes seen: those before slot n, or its own too
 pub record Worked (setting : Setting) (job : Job) (j n : ℕ) (seen : List ℕ) (q : Place) : Type 0 where
   pub same-job : q .job ≡ job
   pub short : length (sinceWindow job n seen) ≤ periodsBegun job n * job .t
-  pub u-is : setting .model ≡ relaxed → q .at .u ≡ slotsOf j (sinceWindow job n seen)
-  pub s-is : setting .model ≡ original → q .at .s ≡ finishedIn job j (sinceWindow job n seen) (periodsBegun job n)
+  pub u-is : byUnits setting ≡ true → q .at .u ≡ slotsOf j (sinceWindow job n seen)
+  pub s-is : byUnits setting ≡ false → q .at .s ≡ finishedIn job j (sinceWindow job n seen) (periodsBegun job n)
 
 -- where a cycle opens, no slot of it is given yet
 none-since : (j m n : ℕ) (bytes : List ℕ) → length bytes ≡ n → n % m ≡ 0 → slotsOf j (drop (n - n % m) bytes) ≡ 0
@@ -88,7 +90,7 @@ finished-step true c v s past now less = go (eqb (v + 1) c) refl
 -- one slot of a place, with the byte b
 module _
     (setting : Setting) (j n : ℕ) (bytes : List ℕ) (b : ℕ) (q : Place) (before : PlaceHistory setting (q .job) j n bytes q)
-    (sound : SoundPlace setting q) (long : length bytes ≡ n) (fair : eqb b j ≡ true → eligibleOf setting q ≡ true)
+    (sound : SoundPlace setting q) (long : length bytes ≡ n) (fair : eqb b j ≡ true → candidateOf setting q ≡ true)
   where
     abbrev job : Job
     job = q .job
@@ -119,10 +121,10 @@ module _
 
     -- the place when its slot was given, or not: its period and window are the same, its counters count b too
     abbrev given : Place
-    given = workedOf setting q (eqb b j) (overdueOf setting q)
+    given = workedOf setting q (eqb b j)
 
     served : Served setting q (eqb b j) given
-    served = worked setting q (eqb b j) (overdueOf setting q)
+    served = worked setting q (eqb b j)
 
     t-given : given .job .t ≡ job .t
     t-given = ap (λ (x : Job). x .t) (served .same-job)
@@ -136,17 +138,17 @@ module _
     p-given : given .at .p ≡ periodsBegun job n
     p-given = served .same-p ∙ before .p-is
 
-    u-given : setting .model ≡ relaxed → given .at .u ≡ slotsOf j (window ++ b ∷ [])
+    u-given : byUnits setting ≡ true → given .at .u ≡ slotsOf j (window ++ b ∷ [])
     u-given m =
         served .u-more m ∙ ap (λ (x : ℕ). cond (eqb b j) (x + 1) x) (before .u-is m)
         ∙ sym (countIn-more (λ b. eqb b j) window b)
 
-    v-given : setting .model ≡ original → given .at .v ≡ slotsOf j (period ++ b ∷ [])
+    v-given : byUnits setting ≡ false → given .at .v ≡ slotsOf j (period ++ b ∷ [])
     v-given m =
         served .v-more m ∙ ap (λ (x : ℕ). cond (eqb b j) (x + 1) x) (before .v-is m)
         ∙ sym (countIn-more (λ b. eqb b j) period b)
 
-    s-given : setting .model ≡ original → given .at .s ≡ finishedIn job j (window ++ b ∷ []) (periodsBegun job n)
+    s-given : byUnits setting ≡ false → given .at .s ≡ finishedIn job j (window ++ b ∷ []) (periodsBegun job n)
     s-given m =
         let finished : ℕ = finishedIn job j window past in
         let e-high : n % job .t < job .t = mod-lt n (sound .job .t .low) in
@@ -157,7 +159,7 @@ module _
         let more : drop whole (window ++ b ∷ []) ≡ period ++ b ∷ [] =
         drop-append-le whole window (b ∷ []) (omega (arith, window-long)) ∙ ap (_++ b ∷ []) period-open in
         served .s-more m
-        ∙ finished-step (eqb b j) (job .c) (q .at .v) (q .at .s) finished now (λ c. eligible-original setting q m (fair c) .1)
+        ∙ finished-step (eqb b j) (job .c) (q .at .v) (q .at .s) finished now (λ c. candidate-instances setting q m (fair c))
         ∙ sym
         (finished-open job j (window ++ b ∷ []) past (cond (eqb b j) (q .at .v + 1) (q .at .v)) finished
         (omega (arith, window-long, length-append window (b ∷ [])))
@@ -186,7 +188,7 @@ module _
       window-next : sinceWindow job (suc n) (bytes ++ b ∷ []) ≡ window ++ b ∷ []
       window-next = since-goes-on (windowOf job) n bytes long b stays
 
-      u-next : setting .model ≡ relaxed → given .at .u ≡ slotsOf j (sinceWindow job (suc n) (bytes ++ b ∷ []))
+      u-next : byUnits setting ≡ true → given .at .u ≡ slotsOf j (sinceWindow job (suc n) (bytes ++ b ∷ []))
       u-next m = u-given m ∙ ap (slotsOf j) (sym window-next)
 
     next : PlaceHistory setting job j (suc n) (bytes ++ b ∷ []) (turnedOf given)
@@ -227,14 +229,14 @@ module _
 -- one slot on, for a place told by its own job
 module _
     (setting : Setting) (job : Job) (j n : ℕ) (bytes : List ℕ) (q : Place) (told : PlaceHistory setting job j n bytes q)
-    (sound : SoundPlace setting q) (long : length bytes ≡ n) (b : ℕ) (fair : eqb b j ≡ true → eligibleOf setting q ≡ true)
+    (sound : SoundPlace setting q) (long : length bytes ≡ n) (b : ℕ) (fair : eqb b j ≡ true → candidateOf setting q ≡ true)
   where
     own : PlaceHistory setting (q .job) j n bytes q
     own = subst (λ (x : Job). PlaceHistory setting x j n bytes q) (sym (told .same-job)) told
 
-    pub history-worked : Worked setting job j n (bytes ++ b ∷ []) (workedOf setting q (eqb b j) (overdueOf setting q))
+    pub history-worked : Worked setting job j n (bytes ++ b ∷ []) (workedOf setting q (eqb b j))
     history-worked =
-        subst (λ (x : Job). Worked setting x j n (bytes ++ b ∷ []) (workedOf setting q (eqb b j) (overdueOf setting q)))
+        subst (λ (x : Job). Worked setting x j n (bytes ++ b ∷ []) (workedOf setting q (eqb b j)))
         (told .same-job) (worked-told setting j n bytes b q own sound long fair)
 
     pub history-goes-on : PlaceHistory setting job j (suc n) (bytes ++ b ∷ []) (movedOf setting q (eqb b j) .place)

@@ -28,6 +28,7 @@ use Rattle.run.specs.Run.{afterSlots, choicesOf}
 use Rattle.run.specs.Calls.{Steps, Run, bytesOf}
 use Rattle.place.specs.Meaning.{placeOfZeros}
 use Rattle.run.proofs.StartLaws.{start-checks, state-passed}
+use Rattle.run.proofs.HereLaws.{past-blank}
 use Rattle.run.proofs.FreshLaws.{fresh-sound}
 use Rattle.run.proofs.AnswerLaws.{StepView, out-of-range, at-limit, goes-on, step-view, step-one-to-one}
 use Rattle.run.proofs.RunLaws.{after-setting, after-count, after-clock, choices-long, choices-take, choice-at}
@@ -37,7 +38,7 @@ use Rattle.rules.specs.Meaning.{SlotTold, PlaceTold, StateTold, noSlot, 
 use Rattle.rules.proofs.HistoryLaws.{PlaceHistory}
 use Rattle.rules.proofs.PlaceLaws.{u-told, v-told, s-told}
 use Rattle.rules.proofs.ChoiceLaws.{one-choice}
-use Rattle.rules.proofs.RunLaws.{sound-after, places-told, given-after, idle-after, tag-after, slot-told, tags-after, shorts-after}
+use Rattle.rules.proofs.RunLaws.{sound-after, place-sound, places-told, given-after, idle-after, tag-after, slot-told, tags-after, shorts-after}
 
 -- a slot that is answered by the rules has the byte that they call for
 chooses-byte :
@@ -75,7 +76,7 @@ module _ (l : JobList) (setting : Setting) (jobs : SoundList l) (allowed : Allow
         let now : State = afterSlots fresh n in
         let sound : SoundState now = sound-after l setting jobs allowed n high in
         let history : PlaceHistory setting (jobOf l j) j n bytes (getD (now .places) j placeOfZeros) = places-told l setting jobs allowed n high j listed in
-        let place = rw (after-setting fresh n) at (sound .places j (omega (arith, after-count fresh n))) in
+        let place = place-sound l setting jobs allowed n high j listed in
         record {
           job-is = history .same-job;
           e-is = history .e-is;
@@ -95,7 +96,7 @@ module _ (l : JobList) (setting : Setting) (jobs : SoundList l) (allowed : Allow
           count-is = after-count fresh n;
           places-long = sound .long;
           places-are = rw long place-told;
-          others-are = λ j past h. sound .blanks j (omega (arith, after-count fresh n)) h;
+          others-are = λ j past h. past-blank sound j (omega (arith, after-count fresh n));
           given-is = given-after l setting jobs allowed n high;
           idle-is = idle-after l setting jobs allowed n high;
           tags-is = rw long (tags-after l setting jobs allowed n high n (le-refl n));

@@ -5,7 +5,7 @@ use Prim.Native.Nat.{ℕ, _+_, _*_}
 use native.Mathlib.Omega.{arith}
 use lib.Dec.{leb, ltb}
 use borrow.Author.Tests.{leb-true, leb-false, le-leb, lt-leb}
-use Rattle.place.specs.declared.inner.choice.Held.{Held}
+use Rattle.place.specs.declared.inner.choice.Fraction.{Fraction}
 use Rattle.place.specs.Choice.{nearerOf}
 use Rattle.place.proofs.DistanceLaws.{plus, minus, side, nearer-is, ltb-shift}
 use Rattle.rules.specs.Rules.{Moment, sooner}
@@ -19,11 +19,11 @@ leb-shift x y u v c d e f = go (leb u v) refl
     go false g = lt-leb x y (let h = leb-false u v g in omega arith)
 
 -- a moment is as far from slot n as a distance says
-pub record Away (n : ℕ) (a : Moment) (h : Held) : Type 0 where
+pub record Away (n : ℕ) (a : Moment) (h : Fraction) : Type 0 where
   pub same-den : a .den ≡ h .den
   pub shifted : a .num + minus (h .num) ≡ n * h .den + plus (h .num)
 
-pub sooner-is : (n : ℕ) (a b : Moment) (g h : Held) → Away n a g → Away n b h → sooner a b ≡ nearerOf g h
+pub sooner-is : (n : ℕ) (a b : Moment) (g h : Fraction) → Away n a g → Away n b h → sooner a b ≡ nearerOf g h
 sooner-is n a b g h at bt =
     ap₂ (λ (x y : ℕ). ltb (a .num * x) (b .num * y)) (bt .same-den) (at .same-den)
     ∙ ltb-shift (a .num * h .den) (b .num * g .den) (side g h) (side h g) (minus (g .num) * h .den + minus (h .num) * g .den) (n * g .den * h .den)

@@ -6,23 +6,19 @@ use Prim.Native.Nat.{ℕ, suc, _+_, _-_, _*_, _/_, _%_, _≤_, _<_}
 use native.Mathlib.Nat.{mod-lt, mod-le}
 use native.Mathlib.Omega.{arith}
 use lib.Dec.{eqb, leb, ltb}
-use lib.IntN.{pos, _-ℤ_}
 use lib.ListN.{length, length-drop}
-use borrow.Author.Tests.{eqb-true, eqb-false, eq-eqb, ne-eqb}
+use borrow.Author.Tests.{eq-eqb, ne-eqb}
 use Rattle.job.specs.declared.record.Job.{Job}
-use Rattle.job.specs.Limit.{relaxed, original}
 use Rattle.job.specs.Sound.{SoundJob}
 use Rattle.place.specs.declared.setting.Setting.{Setting}
 use Rattle.place.specs.declared.record.Place.{Place}
-use Rattle.place.specs.Setting.{inRelaxed, inOrderV}
-use Rattle.place.specs.Place.{windowLeft, finishedOf, owedOf, eligibleOf, numeratorOf, overdueOf, windowEnds}
-use Rattle.place.specs.Choice.{distanceOf}
+use Rattle.place.specs.Setting.{byUnits, inOrderV}
+use Rattle.place.specs.Place.{windowLeft, leftOf, finishedOf, owedOf, eligibleOf, numeratorOf, overdueOf, windowEnds}
+use Rattle.place.specs.Choice.{candidateOf, virtualAway, windowAway, distanceOf}
 use Rattle.place.specs.Sound.{SoundPlace}
 use Rattle.place.proofs.CondLaws.{by-test}
-use Rattle.place.proofs.CaseLaws.{finished-by}
 use Rattle.place.proofs.SignedLaws.{difference-most}
 use Rattle.place.proofs.DistanceLaws.{difference-parts}
-use Rattle.place.proofs.BoundLaws.{not-relaxed}
 use Rattle.rules.specs.Rules.{slotsOf, finishedIn, windowStart, periodStart, periodsBegun, sinceWindow, finished, owed, due, virtualDeadline, deadline}
 use Rattle.rules.proofs.BytesLaws.{finished-rest}
 use Rattle.rules.proofs.CycleLaws.{Tick, nothing-ends, period-ends, window-ends, cycle-goes-on, cycle-ends, window-split, begun-high, tick}
@@ -41,23 +37,21 @@ module _ (setting : Setting) (job : Job) (sound : SoundJob job) (j n : ℕ) (see
       (begun-high (job .t) (job .k) n (sound .t .low) (sound .k .low)))
 
   finished-is :
-      (q : Place) → setting .model ≤ original → Worked setting job j n seen q → finishedOf setting q ≡ finished setting job j n seen
+      (q : Place) → Worked setting job j n seen q → finishedOf setting q ≡ finished setting job j n seen
   unfolding finishedOf finished
-  finished-is q model told = go (inRelaxed setting) refl
+  finished-is q told = go (byUnits setting) refl
     where
       go :
-          (b : Bool) → inRelaxed setting ≡ b
+          (b : Bool) → byUnits setting ≡ b
           → cond b (q .at .u / q .job .c) (q .at .s)
           ≡ cond b (slotsOf j (sinceWindow job n seen) / job .c) (finishedIn job j (sinceWindow job n seen) (job .k))
-      go true e = ap₂ _/_ (told .u-is (eqb-true (setting .model) relaxed e)) (ap (λ (x : Job). x .c) (told .same-job))
-      go false e =
-          let other = eqb-false (setting .model) relaxed e in
-          told .s-is (omega arith) ∙ periods-rest (told .short)
+      go true e = ap₂ _/_ (told .u-is e) (ap (λ (x : Job). x .c) (told .same-job))
+      go false e = told .s-is e ∙ periods-rest (told .short)
 
   pub owed-is :
-      (q : Place) → setting .model ≤ original → Worked setting job j n seen q → owedOf setting q ≡ owed setting job j n seen
+      (q : Place) → Worked setting job j n seen q → owedOf setting q ≡ owed setting job j n seen
   unfolding owedOf
-  owed-is q model told = ap₂ _-_ (ap (λ (x : Job). x .m) (told .same-job)) (finished-is q model told)
+  owed-is q told = ap₂ _-_ (ap (λ (x : Job). x .m) (told .same-job)) (finished-is q told)
 
 module _
     (setting : Setting) (job : Job) (j n : ℕ) (seen : List ℕ) (q : Place) (told : PlaceHistory setting job j n seen q)
@@ -85,11 +79,11 @@ module _
         }
 
     owed-told : owedOf setting q ≡ owed setting job j n seen
-    owed-told = owed-is setting job sound j n seen q (place .model) worked
+    owed-told = owed-is setting job sound j n seen q worked
 
-    pub due-told : eligibleOf setting q ≡ due setting job j n seen
-    unfolding eligibleOf due
-    due-told = go (inRelaxed setting) refl
+    pub due-told : candidateOf setting q ≡ due setting job j n seen
+    unfolding candidateOf eligibleOf due finished
+    due-told = go (byUnits setting) refl
       where
         u : ℕ
         u = slotsOf j (sinceWindow job n seen)
@@ -98,34 +92,32 @@ module _
         v = slotsOf j (sincePeriod job n seen)
 
         go :
-            (b : Bool) → inRelaxed setting ≡ b
+            (b : Bool) → byUnits setting ≡ b
             → cond b (ltb (q .at .u) (q .job .m * q .job .c) && ltb (q .at .u) (q .at .p * q .job .c))
             (ltb (q .at .s) (q .job .m) && ltb (q .at .v) (q .job .c))
             ≡ cond b (ltb u (job .m * job .c) && ltb u (periodsBegun job n * job .c))
             (ltb (finished setting job j n seen) (job .m) && ltb v (job .c))
-        go true e = rw (told .u-is (eqb-true (setting .model) relaxed e), told .p-is, told .same-job)
+        go true e = rw (told .u-is e, told .p-is, told .same-job)
         go false e =
-            let is : setting .model ≡ original = not-relaxed place (eqb-false (setting .model) relaxed e) in
-            let s-told : q .at .s ≡ finished setting job j n seen = finished-by setting q false e ∙ finished-is setting job sound j n seen q (place .model) worked in
-            rw (s-told, told .v-is is, told .same-job)
+            let s-told : q .at .s ≡ finished setting job j n seen = told .s-is e ∙ periods-rest setting job sound j n seen (worked .short) ∙ rw e in
+            rw (s-told, told .v-is e, told .same-job)
 
     -- the counters, those of the other model too
     pub u-told : q .at .u ≡ cond (eqb (setting .model) 0) (slotsOf j (sinceWindow job n seen)) 0
     u-told =
-        by-test (λ (x : ℕ). q .at .u ≡ x) (inRelaxed setting) (λ e. told .u-is (eqb-true (setting .model) relaxed e))
-        (λ e. place .in-original (not-relaxed place (eqb-false (setting .model) relaxed e)) .u-unused)
+        by-test (λ (x : ℕ). q .at .u ≡ x) (byUnits setting) (told .u-is)
+        (λ e. place .service .by-instances e .u-unused)
 
     pub v-told : q .at .v ≡ cond (eqb (setting .model) 0) 0 (slotsOf j (sincePeriod job n seen))
     v-told =
-        by-test (λ (x : ℕ). q .at .v ≡ x) (inRelaxed setting)
-        (λ e. place .in-relaxed (eqb-true (setting .model) relaxed e) .v-unused)
-        (λ e. told .v-is (not-relaxed place (eqb-false (setting .model) relaxed e)))
+        by-test (λ (x : ℕ). q .at .v ≡ x) (byUnits setting)
+        (λ e. place .service .by-units e .v-unused) (told .v-is)
 
     pub s-told : q .at .s ≡ cond (eqb (setting .model) 0) 0 (finishedIn job j (sinceWindow job n seen) (job .k))
     s-told =
-        by-test (λ (x : ℕ). q .at .s ≡ x) (inRelaxed setting)
-        (λ e. place .in-relaxed (eqb-true (setting .model) relaxed e) .s-unused)
-        (λ e. told .s-is (not-relaxed place (eqb-false (setting .model) relaxed e)) ∙ periods-rest setting job sound j n seen (worked .short))
+        by-test (λ (x : ℕ). q .at .s ≡ x) (byUnits setting)
+        (λ e. place .service .by-units e .s-unused)
+        (λ e. told .s-is e ∙ periods-rest setting job sound j n seen (worked .short))
 
     pub left-told : windowLeft q ≡ (job .k - periodsBegun job n + 1) * job .t
     unfolding windowLeft
@@ -135,16 +127,15 @@ module _
     begins : periodStart job n + q .at .e ≡ n
     begins = omega (arith, told .e-is, mod-le n (job .t))
 
-    pub away : Away n (deadline setting job j n seen) (distanceOf setting j q)
-    unfolding deadline distanceOf numeratorOf
+    pub away : Away n (deadline setting job j n seen) (distanceOf setting q)
+    unfolding deadline distanceOf numeratorOf leftOf
     away = go (inOrderV setting)
       where
         go :
             (b : Bool)
             → Away n
             (cond b (virtualDeadline setting job j n seen) (record { num = windowStart job n + job .k * job .t; den = 1 }))
-            (cond b (record { at = j; num = pos (windowLeft q) -ℤ pos (q .at .e * owedOf setting q); den = owedOf setting q })
-            (record { at = j; num = pos (windowLeft q - q .at .e); den = 1 }))
+            (cond b (virtualAway setting q) (windowAway q))
         go true =
             let m′ : ℕ = owedOf setting q in
             record {

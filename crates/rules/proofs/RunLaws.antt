@@ -11,7 +11,7 @@ use lib.ListN.{take}
 use Rattle.job.specs.declared.list.JobList.{JobList}
 use Rattle.job.specs.Sound.{SoundList}
 use Rattle.place.specs.declared.setting.Setting.{Setting}
-use Rattle.place.specs.Sound.{Allowed}
+use Rattle.place.specs.Sound.{Allowed, SoundPlace}
 use Rattle.run.specs.declared.state.State.{State}
 use Rattle.run.specs.State.{clockMost, placeAt, freshOf}
 use Rattle.run.specs.Slot.{countUpto, allMoved, turnOf}
@@ -19,7 +19,8 @@ use Rattle.run.specs.Sound.{SoundState}
 use Rattle.run.specs.Run.{afterSlots, choicesOf}
 use Rattle.run.proofs.FreshLaws.{fresh-listed, fresh-sound}
 use Rattle.run.proofs.SlotLaws.{mask-exactly, count-is}
-use Rattle.run.proofs.ChoiceLaws.{at, given-exactly, idle-exactly}
+use Rattle.run.proofs.HereLaws.{at, job-sound}
+use Rattle.run.proofs.ChoiceLaws.{given-exactly, idle-exactly}
 use Rattle.run.proofs.TurnLaws.{nextByte, byte-fair, turn-given, turn-idle, turn-tags, turn-shorts, turn-place}
 use Rattle.run.proofs.RunLaws.{after-setting, after-count, after-sound, choices-more, choices-long, choices-take, choice-at}
 use Rattle.run.specs.SlotMeaning.{howMany}
@@ -64,6 +65,10 @@ module _ (l : JobList) (setting : Setting) (jobs : SoundList l) (allowed : Allow
   pub sound-after : (n : ℕ) → n ≤ clockMost → SoundState (after n)
   sound-after n high = after-sound fresh starts-sound n (omega arith)
 
+  -- the place of a job of the list
+  pub place-sound : (n : ℕ) → n ≤ clockMost → (i : ℕ) → i < l .count → SoundPlace setting (at (after n) i)
+  place-sound n high i h = rw (after-setting fresh n) at (job-sound (sound-after n high) i (omega (arith, after-count fresh n)))
+
   fresh-place : (i : ℕ) → i < l .count → PlaceHistory setting (jobOf l i) i 0 [] (at fresh i)
   fresh-place i h = rw (fresh-listed l setting (jobs .count .high) i h) (history-starts setting (jobOf l i) (jobs .jobs i h) i)
 
@@ -82,7 +87,7 @@ module _ (l : JobList) (setting : Setting) (jobs : SoundList l) (allowed : Allow
       (rw (turn-place now sound i inside)
       (history-goes-on (now .setting) (jobOf l i) i n (choicesOf fresh n) (at now i)
       (rw (after-setting fresh n) (places-told n (omega arith) i h))
-      (sound .places i inside) (choices-long fresh n) (nextByte now) (byte-fair now sound i inside)))
+      (rw (after-setting fresh n) (place-sound n (omega arith) i h)) (choices-long fresh n) (nextByte now) (byte-fair now sound i inside)))
 
   pub given-after : (n : ℕ) → n ≤ clockMost → after n .totals .given ≡ countIn (λ b. ltb b (l .count)) (choicesOf fresh n)
   given-after n high =
@@ -115,6 +120,7 @@ module _ (l : JobList) (setting : Setting) (jobs : SoundList l) (allowed : Allow
                 sound = sound-after n (omega arith);
                 long = choices-long fresh n;
                 listed = after-count fresh n;
+                jobs-sound = λ i below. rw (after-setting fresh n) (place-sound n (omega arith) i below);
                 places = λ i below. rw (after-setting fresh n) (places-told n (omega arith) i below);
               });
           byte = choice-at fresh idleByte N n h;

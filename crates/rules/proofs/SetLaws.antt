@@ -1,6 +1,6 @@
 -- The sets of a slot's answer, and the tag that a place keeps, are those that the rules say.
-use mathlib.Core.Path.{_≡_, sym, ap, ap₂, _∙_}
-use mathlib.Core.Bool.{Bool, true, false, _&&_, _||_, not, cond, or-true, or-false}
+use mathlib.Core.Path.{_≡_, refl, sym, ap, ap₂, _∙_}
+use mathlib.Core.Bool.{Bool, true, false, _&&_, _||_, not, cond}
 use mathlib.Core.List.{List, [], _∷_, _++_}
 use Prim.Native.Nat.{ℕ, suc, _+_, _*_, _%_, _<_}
 use native.Mathlib.Nat.{mod-le}
@@ -14,16 +14,13 @@ use Rattle.job.specs.declared.list.JobList.{JobList}
 use Rattle.job.specs.Sound.{SoundList}
 use Rattle.place.specs.declared.setting.Setting.{Setting}
 use Rattle.place.specs.declared.record.Place.{Place}
-use Rattle.place.specs.Setting.{inRelaxed}
-use Rattle.place.specs.Place.{owedOf, overdueOf, firstTagged, servedOf, workedOf, shortOf, turnedOf, movedOf}
-use Rattle.place.proofs.CondLaws.{by-test}
-use Rattle.place.proofs.PlaceLaws.{worked-ends}
+use Rattle.place.specs.Place.{owedOf, tagsOf, firstTagged, workedOf, shortOf, turnedOf, movedOf}
+use Rattle.place.proofs.CounterLaws.{Served, worked, worked-tag, worked-ends, turned-on, turned-period, turned-window}
 use Rattle.run.specs.declared.state.State.{State}
 use Rattle.run.specs.State.{placeAt}
 use Rattle.run.specs.Choice.{chosenOf}
 use Rattle.run.specs.Slot.{tagsAt, shortsAt, turnOf}
-use Rattle.run.proofs.ChoiceLaws.{at}
-use Rattle.run.proofs.CounterLaws.{Served, worked, turned-on, turned-period, turned-window}
+use Rattle.run.proofs.HereLaws.{at}
 use Rattle.run.proofs.TurnLaws.{nextByte, byte-at, byte-fair, turn-place}
 use Rattle.run.specs.SlotMeaning.{howMany}
 use Rattle.rules.specs.Rules.{idleByte, windowStart, owed, jobOf, tags, tagged, firstTags, endsShort}
@@ -33,18 +30,9 @@ use Rattle.rules.proofs.PlaceLaws.{owed-is, overdue-told, ends-told}
 use Rattle.rules.proofs.ChoiceLaws.{Told, here}
 
 -- a count of one number more is above 0 if it was, or if that number counts
-some-more : (b : Bool) (h : ℕ) → ltb 0 (cond b (h + 1) h) ≡ (ltb 0 h || b)
-some-more true h = lt-ltb 0 (h + 1) (omega arith) ∙ sym (or-true (ltb 0 h))
-some-more false h = sym (or-false (ltb 0 h))
-
--- a place's tag, when its slot was given or not
-worked-tag : (setting : Setting) (q : Place) (chosen late : Bool) → workedOf setting q chosen late .at .tag ≡ (q .at .tag || (not chosen && late))
-unfolding workedOf servedOf
-worked-tag setting q true late =
-    by-test (λ (r : Place). r .at .tag ≡ (q .at .tag || false)) (inRelaxed setting) (λ e. sym (or-false (q .at .tag)))
-    (λ e. sym (or-false (q .at .tag)))
-worked-tag setting q false true = sym (or-true (q .at .tag))
-worked-tag setting q false false = sym (or-false (q .at .tag))
+some-more : (b : Bool) (h : ℕ) → ltb 0 (cond b (h + 1) h) ≡ (b || ltb 0 h)
+some-more true h = lt-ltb 0 (h + 1) (omega arith)
+some-more false h = refl
 
 -- a state before slot n of the bytes, whose own byte is the slot's choice
 pub record Before (l : JobList) (bytes : List ℕ) (n : ℕ) (s : State) : Type 0 where
@@ -75,13 +63,13 @@ module _ (l : JobList) (jobs : SoundList l) (bytes : List ℕ) (n : ℕ) (s : St
   byte-is : eqb (nextByte s) i ≡ chosen
   byte-is = byte-at s (before .told .sound) i inside
 
-  tags-here : (not chosen && overdueOf setting q) ≡ tags l setting bytes n i
-  unfolding tags
+  tags-here : tagsOf setting q chosen ≡ tags l setting bytes n i
+  unfolding tags tagsOf
   tags-here =
       rw (
         before .byte,
         byte-is,
-        overdue-told setting job i n (take n bytes) q history (before .told .sound .places i inside) (jobs .jobs i listed) (before .told .long),
+        overdue-told setting job i n (take n bytes) q history (before .told .jobs-sound i listed) (jobs .jobs i listed) (before .told .long),
       )
 
   pub first-here : tagsAt setting (s .places) (chosenOf s) i ≡ firstTags l setting bytes n i
@@ -92,36 +80,35 @@ module _ (l : JobList) (jobs : SoundList l) (bytes : List ℕ) (n : ℕ) (s : St
   unfolding movedOf shortOf endsShort
   short-here =
       ap₂ (λ (a : Bool) (b : ℕ). a && ltb 0 b)
-      (worked-ends setting q chosen (overdueOf setting q)
-      ∙ ends-told setting job i n (take n bytes) q history (before .told .sound .places i inside) (jobs .jobs i listed) (before .told .long))
-      (ap (λ (c : Bool). owedOf setting (workedOf setting q c (overdueOf setting q))) (sym byte-is)
-      ∙ owed-is setting job (jobs .jobs i listed) i n (take n bytes ++ nextByte s ∷ []) (workedOf setting q (eqb (nextByte s) i) (overdueOf setting q))
-      (before .told .sound .model)
-      (history-worked setting job i n (take n bytes) q history (before .told .sound .places i inside) (before .told .long) (nextByte s)
+      (worked-ends setting q chosen
+      ∙ ends-told setting job i n (take n bytes) q history (before .told .jobs-sound i listed) (jobs .jobs i listed) (before .told .long))
+      (ap (λ (c : Bool). owedOf setting (workedOf setting q c)) (sym byte-is)
+      ∙ owed-is setting job (jobs .jobs i listed) i n (take n bytes ++ nextByte s ∷ []) (workedOf setting q (eqb (nextByte s) i))
+      (history-worked setting job i n (take n bytes) q history (before .told .jobs-sound i listed) (before .told .long) (nextByte s)
       (byte-fair s (before .told .sound) i inside))
       ∙ ap (owed setting job i n) (sym (before .more)))
 
   -- the tag one slot on
   abbrev given : Place
-  given = workedOf setting q chosen (overdueOf setting q)
+  given = workedOf setting q chosen
 
   abbrev window : ℕ
   window = job .k * job .t
 
-  goes-on : n % window + 1 < window → tagged l setting bytes (suc n) i ≡ (q .at .tag || tags l setting bytes n i)
+  goes-on : n % window + 1 < window → tagged l setting bytes (suc n) i ≡ (tags l setting bytes n i || q .at .tag)
   unfolding tagged howMany
   goes-on stays =
       let gone : suc n % window ≡ n % window + 1 = cycle-goes-on window n stays in
       let same : windowStart job (suc n) ≡ windowStart job n = omega arith in
       let now : windowStart job n + n % window ≡ n = omega (arith, mod-le n window) in
-      rw (same, gone, add-one (n % window), now) (some-more (tags l setting bytes n i) _ ∙ ap (_|| tags l setting bytes n i) (sym (before .tag i listed)))
+      rw (same, gone, add-one (n % window), now) (some-more (tags l setting bytes n i) _ ∙ ap (tags l setting bytes n i ||_) (sym (before .tag i listed)))
 
   ends : n % window + 1 ≡ window → tagged l setting bytes (suc n) i ≡ false
   unfolding tagged howMany
   ends closes = rw (cycle-ends window n closes)
 
-  given-tag : given .at .tag ≡ (q .at .tag || tags l setting bytes n i)
-  given-tag = worked-tag setting q chosen (overdueOf setting q) ∙ ap (q .at .tag ||_) tags-here
+  given-tag : given .at .tag ≡ (tags l setting bytes n i || q .at .tag)
+  given-tag = worked-tag setting q chosen ∙ ap (_|| q .at .tag) tags-here
 
   pub tag-next : placeAt (turnOf s .state .places) i .at .tag ≡ tagged l setting bytes (suc n) i
   unfolding movedOf
@@ -130,7 +117,7 @@ module _ (l : JobList) (jobs : SoundList l) (bytes : List ℕ) (n : ℕ) (s : St
       ∙ go (tick (job .t) (job .k) n (jobs .jobs i listed .t .low) (jobs .jobs i listed .k .low))
     where
       served : Served setting q chosen given
-      served = worked setting q chosen (overdueOf setting q)
+      served = worked setting q chosen
 
       t-given : given .job .t ≡ job .t
       t-given = ap (λ (x : Job). x .t) (served .same-job ∙ history .same-job)

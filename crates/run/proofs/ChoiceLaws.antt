@@ -1,19 +1,19 @@
--- What the choice means, in both orders: it is eligible, nothing eligible is nearer, and nothing of lower number as near.
+-- What the choice means: it is a candidate, no candidate comes before it, and of those as near it has the lowest number.
 use mathlib.Core.Path.{_≡_, refl, sym, ap, subst, _∙_}
 use mathlib.Core.Bool.{Bool, true, false, _&&_}
 use mathlib.Core.Logic.{_↔_}
 use mathlib.Core.List.{List}
-use Prim.Native.Nat.{ℕ, zero, suc, _+_, _-_, _*_, _≤_, _<_}
+use Prim.Native.Nat.{ℕ, zero, suc, _+_, _≤_, _<_}
 use native.Mathlib.Numerals.{add-one}
 use native.Mathlib.Omega.{arith}
 use borrow.Author.Count.{below-none, below-more}
-use borrow.Author.Tests.{ltb-false, ne-eqb}
+use borrow.Author.Tests.{ne-eqb}
 use Rattle.place.specs.declared.setting.Setting.{Setting}
 use Rattle.place.specs.declared.record.Place.{Place}
 use Rattle.place.specs.declared.inner.choice.Held.{Held}
-use Rattle.place.specs.Setting.{orderV, orderW, inOrderV}
-use Rattle.place.specs.Place.{windowLeft, eligibleOf}
-use Rattle.place.specs.Choice.{distanceOf, nearerOf, betterOf, nobody}
+use Rattle.place.specs.Setting.{orderW}
+use Rattle.place.specs.Place.{leftOf, eligibleOf}
+use Rattle.place.specs.Choice.{candidateOf, soonerOf, heldOf, noPlace, nobody, betterOf}
 use Rattle.run.specs.declared.state.State.{State}
 use Rattle.run.specs.declared.answer.Choice.the-variants.{Given, Idle}
 use Rattle.run.specs.State.{placeAt}
@@ -22,31 +22,15 @@ use Rattle.run.specs.Slot.{choiceOf, turnOf}
 use Rattle.run.specs.Sound.{SoundState}
 use Rattle.job.proofs.TestLaws.{clash, both}
 use Rattle.place.proofs.CondLaws.{by-test}
-use Rattle.place.proofs.PlaceLaws.{eligible-owed}
-use Rattle.place.proofs.DistanceLaws.{nearer-self, nearer-back, nearer-through, nobody-farther}
+use Rattle.place.proofs.PlaceLaws.{eligible-candidate}
+use Rattle.place.proofs.OrderLaws.{sooner-self, sooner-back, sooner-through, better-held, better-nobody, window-first}
+use Rattle.run.proofs.HereLaws.{at}
 
--- place i of a state, and whether it is eligible
+abbrev pub IsCandidate : State → ℕ → Type 0
+IsCandidate s i = candidateOf (s .setting) (at s i) ≡ true
 
-abbrev pub at : State → ℕ → Place
-at s i = placeAt (s .places) i
-
-abbrev pub IsEligible : State → ℕ → Type 0
-IsEligible s i = eligibleOf (s .setting) (at s i) ≡ true
-
--- a place's distance
-
-distance-at : (setting : Setting) (i : ℕ) (q : Place) → distanceOf setting i q .at ≡ i
-unfolding distanceOf
-distance-at setting i q = by-test (λ (h : Held). h .at ≡ i) (inOrderV setting) (λ e. refl) (λ e. refl)
-
-distance-den : (setting : Setting) (i : ℕ) (q : Place) → eligibleOf setting q ≡ true → 0 < distanceOf setting i q .den
-unfolding distanceOf
-distance-den setting i q eligible =
-    by-test (λ (h : Held). 0 < h .den) (inOrderV setting) (λ e. eligible-owed setting q eligible) (λ e. omega arith)
-
-first-fails : (a b : Bool) → (a && b) ≡ false → (a ≡ true → b ≡ true) → a ≡ false
-first-fails true b e f = absurd (clash e (f refl))
-first-fails false b e f = refl
+abbrev pub NoCandidate : State → Type 0
+NoCandidate s = (i : ℕ) → i < s .count → candidateOf (s .setting) (at s i) ≡ false
 
 -- what is held of the first n places
 
@@ -58,67 +42,65 @@ one-more-held setting places i e f =
     rw (add-one i) (f ∙ ap (λ (h : Held). betterOf setting h i (placeAt places i)) e)
 
 module _ (setting : Setting) (places : List Place) where
-  abbrev pub Eligible : ℕ → Type 0
-  Eligible i = eligibleOf setting (placeAt places i) ≡ true
+  abbrev candidate : ℕ → Bool
+  candidate i = candidateOf setting (placeAt places i)
 
-  abbrev pub away : ℕ → Held
-  away i = distanceOf setting i (placeAt places i)
+  abbrev pub sooner : ℕ → ℕ → Bool
+  sooner i j = soonerOf setting (placeAt places i) (placeAt places j)
+
+  abbrev held : ℕ → Held
+  held i = heldOf setting i (placeAt places i)
 
   -- place j is the one to choose among the first n
-  pub record Nearest (n j : ℕ) : Type 0 where
+  pub record First (n j : ℕ) : Type 0 where
     pub listed : j < n
-    pub is-eligible : Eligible j
-    pub none-nearer : (i : ℕ) → i < n → Eligible i → nearerOf (away i) (away j) ≡ false
-    pub lower-farther : (i : ℕ) → i < j → Eligible i → nearerOf (away j) (away i) ≡ true
+    pub is-candidate : candidate j ≡ true
+    pub none-sooner : (i : ℕ) → i < n → candidate i ≡ true → sooner i j ≡ false
+    pub lower-later : (i : ℕ) → i < j → candidate i ≡ true → sooner j i ≡ true
 
   data HeldView (n : ℕ) : Held → Type 0 where
-    none-held : ((i : ℕ) → i < n → eligibleOf setting (placeAt places i) ≡ false) → HeldView n nobody
-    one-held : (j : ℕ) → Nearest n j → HeldView n (away j)
+    none-held : ((i : ℕ) → i < n → candidate i ≡ false) → HeldView n nobody
+    one-held : (j : ℕ) → First n j → HeldView n (held j)
 
-  -- a place nearer than all before it
-  newest : (n : ℕ) → Eligible n → ((i : ℕ) → i < n → Eligible i → nearerOf (away n) (away i) ≡ true) → Nearest (suc n) n
-  newest n eligible nearer =
+  -- a candidate before all those of lower number
+  newest : (n : ℕ) → candidate n ≡ true → ((i : ℕ) → i < n → candidate i ≡ true → sooner n i ≡ true) → First (suc n) n
+  newest n is first =
       record {
         listed = omega arith;
-        is-eligible = eligible;
-        none-nearer =
+        is-candidate = is;
+        none-sooner =
             rw (← add-one n)
-            (below-more (λ (i : ℕ). Eligible i → nearerOf (away i) (away n) ≡ false) n
-            (λ i h e. nearer-back (away n) (away i) (nearer i h e))
-            (λ e. nearer-self (away n)));
-        lower-farther = nearer;
+            (below-more (λ (i : ℕ). candidate i ≡ true → sooner i n ≡ false) n
+            (λ i h e. sooner-back setting (placeAt places n) (placeAt places i) (first i h e))
+            (λ e. sooner-self setting (placeAt places n)));
+        lower-later = first;
       }
 
   held-more : (n : ℕ) (h : Held) → HeldView n h → HeldView (suc n) (betterOf setting h n (placeAt places n))
-  unfolding betterOf
   held-more n h (none-held none) =
-      by-test (HeldView (suc n)) (eligibleOf setting (placeAt places n) && nearerOf (away n) nobody)
-      (λ e. one-held n (newest n (both _ _ e .0) (λ i l eligible. absurd (clash (none i l) eligible))))
-      (λ e.
-      none-held
-      (rw (← add-one n)
-      (below-more (λ (i : ℕ). eligibleOf setting (placeAt places i) ≡ false) n none
-      (first-fails _ _ e (λ eligible. nobody-farther (away n) (distance-den setting n (placeAt places n) eligible))))))
+      rw (better-nobody setting n (placeAt places n))
+      (by-test (HeldView (suc n)) (candidate n)
+      (λ e. one-held n (newest n e (λ i l is. absurd (clash (none i l) is))))
+      (λ e. none-held (rw (← add-one n) (below-more (λ (i : ℕ). candidate i ≡ false) n none e))))
   held-more n h (one-held j best) =
-      by-test (HeldView (suc n)) (eligibleOf setting (placeAt places n) && nearerOf (away n) (away j))
+      rw (better-held setting n j (placeAt places n) (placeAt places j))
+      (by-test (HeldView (suc n)) (candidate n && sooner n j)
       (λ e.
-      let tests = both (eligibleOf setting (placeAt places n)) (nearerOf (away n) (away j)) e in
+      let tests = both (candidate n) (sooner n j) e in
       one-held n
       (newest n (tests .0)
-      (λ i l eligible.
-      nearer-through (away n) (away j) (away i) (distance-den setting i (placeAt places i) eligible) (tests .1)
-      (best .none-nearer i l eligible))))
+      (λ i l is.
+      sooner-through setting (placeAt places n) (placeAt places j) (placeAt places i) is (tests .1) (best .none-sooner i l is))))
       (λ e.
       one-held j
       (record {
         listed = omega (arith, best .listed);
-        is-eligible = best .is-eligible;
-        none-nearer =
+        is-candidate = best .is-candidate;
+        none-sooner =
             rw (← add-one n)
-            (below-more (λ (i : ℕ). Eligible i → nearerOf (away i) (away j) ≡ false) n (best .none-nearer)
-            (λ eligible. rw eligible at e));
-        lower-farther = best .lower-farther;
-      }))
+            (below-more (λ (i : ℕ). candidate i ≡ true → sooner i j ≡ false) n (best .none-sooner) (λ is. rw is at e));
+        lower-later = best .lower-later;
+      })))
 
   held-view : (n : ℕ) → HeldView n (heldUpto setting places n)
   unfolding heldUpto
@@ -128,11 +110,11 @@ module _ (setting : Setting) (places : List Place) where
 -- the choice of a state
 
 abbrev pub Chosen : State → ℕ → Type 0
-Chosen s j = Nearest (s .setting) (s .places) (s .count) j
+Chosen s j = First (s .setting) (s .places) (s .count) j
 
--- a job that is the one to choose, or 16 where none is eligible
+-- a place that is the one to choose, or no place
 pub data ChoiceView (s : State) : ℕ → Type 0 where
-  none-chosen : ((i : ℕ) → i < s .count → eligibleOf (s .setting) (at s i) ≡ false) → ChoiceView s 16
+  none-chosen : NoCandidate s → ChoiceView s noPlace
   one-chosen : (j : ℕ) → Chosen s j → ChoiceView s j
 
 pub choice-view : (s : State) → ChoiceView s (chosenOf s)
@@ -141,18 +123,18 @@ choice-view s = go (heldUpto (s .setting) (s .places) (s .count)) (held-view (s 
   where
     go : (h : Held) → HeldView (s .setting) (s .places) (s .count) h → ChoiceView s (h .at)
     go h (none-held none) = none-chosen none
-    go h (one-held j best) = rw (distance-at (s .setting) j (at s j)) (one-chosen j best)
+    go h (one-held j first) = one-chosen j first
 
-pub chosen-eligible : (s : State) (i : ℕ) → i < 16 → i ≡ chosenOf s → IsEligible s i
-chosen-eligible s i h = go (chosenOf s) (choice-view s)
+pub chosen-candidate : (s : State) (i : ℕ) → i < noPlace → i ≡ chosenOf s → IsCandidate s i
+chosen-candidate s i h = go (chosenOf s) (choice-view s)
   where
-    go : (a : ℕ) → ChoiceView s a → i ≡ a → IsEligible s i
+    go : (a : ℕ) → ChoiceView s a → i ≡ a → IsCandidate s i
     go a (none-chosen none) e = absurd (omega arith)
-    go a (one-chosen j c) e = subst (IsEligible s) (sym e) (c .is-eligible)
+    go a (one-chosen j c) e = subst (IsCandidate s) (sym e) (c .is-candidate)
 
--- there is no second job to choose
+-- there is no second place to choose
 not-below : (s : State) (i j : ℕ) → Chosen s i → Chosen s j → i < j → ⊥
-not-below s i j a b h = clash (a .none-nearer j (b .listed) (b .is-eligible)) (b .lower-farther i h (a .is-eligible))
+not-below s i j a b h = clash (a .none-sooner j (b .listed) (b .is-candidate)) (b .lower-later i h (a .is-candidate))
 
 chosen-unique : (s : State) (i j : ℕ) → Chosen s i → Chosen s j → i ≡ j
 chosen-unique s i j a b =
@@ -162,9 +144,9 @@ chosen-unique s i j a b =
 
 -- the answer
 
-choice-given : {a : ℕ} → a < 16 → choiceOf a ≡ Given a
+choice-given : {a : ℕ} → a < noPlace → choiceOf a ≡ Given a
 unfolding choiceOf
-choice-given {a} h = rw (ne-eqb a 16 (omega arith))
+choice-given {a} h = rw (ne-eqb a noPlace (omega arith))
 
 pub given-idle : {j : ℕ} → Given j ≡ Idle → ⊥
 given-idle e = let z : _≡_ {A = ℕ} 0 1 = cc in omega arith
@@ -178,41 +160,27 @@ given-exactly s sound j = go (chosenOf s) (choice-view s)
   where
     go : (a : ℕ) → ChoiceView s a → (choiceOf a ≡ Given j) ↔ Chosen s j
     go a (none-chosen none) =
-        (λ e. absurd (given-idle (sym e)), λ c. absurd (clash (none j (c .listed)) (c .is-eligible)))
+        (λ e. absurd (given-idle (sym e)), λ c. absurd (clash (none j (c .listed)) (c .is-candidate)))
     go a (one-chosen i c) =
         let given : choiceOf i ≡ Given i = choice-given (omega (arith, c .listed, sound .count .high)) in
         (λ e. subst (Chosen s) (given-same (sym given ∙ e)) c, λ d. given ∙ ap Given (chosen-unique s i j c d))
 
 pub idle-exactly :
     (s : State) → SoundState s
-    → (turnOf s .slot .choice ≡ Idle) ↔ ((i : ℕ) → i < s .count → eligibleOf (s .setting) (at s i) ≡ false)
+    → (turnOf s .slot .choice ≡ Idle) ↔ NoCandidate s
 unfolding turnOf choiceOf
 idle-exactly s sound = go (chosenOf s) (choice-view s)
   where
-    go :
-        (a : ℕ) → ChoiceView s a
-        → (choiceOf a ≡ Idle) ↔ ((i : ℕ) → i < s .count → eligibleOf (s .setting) (at s i) ≡ false)
+    go : (a : ℕ) → ChoiceView s a → (choiceOf a ≡ Idle) ↔ NoCandidate s
     go a (none-chosen none) = (λ e. none, λ f. refl)
     go a (one-chosen i c) =
         let given : choiceOf i ≡ Given i = choice-given (omega (arith, c .listed, sound .count .high)) in
-        (λ e. absurd (given-idle (sym given ∙ e)), λ none. absurd (clash (none i (c .listed)) (c .is-eligible)))
+        (λ e. absurd (given-idle (sym given ∙ e)), λ none. absurd (clash (none i (c .listed)) (c .is-candidate)))
 
--- in order W no eligible job's window ends sooner than that of the job chosen
-
-window-nearer :
-    (setting : Setting) (i j : ℕ) (q r : Place) → setting .order ≡ orderW
-    → nearerOf (distanceOf setting i q) (distanceOf setting j r) ≡ false
-    → windowLeft r - r .at .e ≤ windowLeft q - q .at .e
-unfolding distanceOf nearerOf
-window-nearer setting i j q r order e =
-    let order-test : inOrderV setting ≡ false = ne-eqb (setting .order) orderV (omega arith) in
-    let h = ltb-false ((windowLeft q - q .at .e) * 1) ((windowLeft r - r .at .e) * 1) (simp order-test at e) in
-    omega arith
-
+-- in order W, where some are eligible one of them is chosen, and no window of theirs ends sooner
 pub window-order :
-    (s : State) → SoundState s → s .setting .order ≡ orderW → (j : ℕ) → turnOf s .slot .choice ≡ Given j
-    → (i : ℕ) → i < s .count → IsEligible s i
-    → windowLeft (at s j) - at s j .at .e ≤ windowLeft (at s i) - at s i .at .e
-window-order s sound order j given i listed eligible =
-    window-nearer (s .setting) i j (at s i) (at s j) order
-    (given-exactly s sound j .0 given .none-nearer i listed eligible)
+    (s : State) → s .setting .order ≡ orderW → {j : ℕ} → Chosen s j → (i : ℕ) → i < s .count → eligibleOf (s .setting) (at s i) ≡ true
+    → (eligibleOf (s .setting) (at s j) ≡ true) × (leftOf (at s j) ≤ leftOf (at s i))
+window-order s order {j} chosen i listed eligible =
+    let candidate = eligible-candidate (s .setting) (at s i) eligible in
+    window-first (s .setting) (at s j) (at s i) order (chosen .is-candidate) eligible (chosen .none-sooner i listed candidate)

@@ -20,6 +20,7 @@ use Rattle.run.specs.State.{placeAt, zeros, freshUpto, freshOf}
 use Rattle.run.specs.Sound.{SoundState}
 use Rattle.job.proofs.FilledLaws.{filled-long, filled-at, filled-past}
 use Rattle.place.proofs.PlaceLaws.{opened-sound}
+use Rattle.run.proofs.HereLaws.{places-sound}
 
 -- the state with the first n jobs of a list in their places
 abbrev pub openedUpto : JobList → Setting → ℕ → State
@@ -70,12 +71,12 @@ fresh-sound l s sound allowed =
     let few = sound .count .high in
     record {
       long = filled-long blank (λ i. opened (jobAt (l .jobs) i)) (min (l .count) countMost);
-      order = allowed .order;
-      model = allowed .model;
+      setting = allowed;
       clock-high = omega arith;
       count = sound .count;
-      places = λ i h. rw (fresh-listed l s few i h) (opened-sound (allowed .model) (sound .jobs i h));
-      blanks = λ i past h. fresh-blank l s few i past;
+      places =
+          places-sound s (l .count) (freshOf l s .places)
+          (λ i h. rw (fresh-listed l s few i h) (opened-sound (sound .jobs i h))) (fresh-blank l s few);
       slots = refl;
       tags-high = omega arith;
       shorts-high = omega arith;

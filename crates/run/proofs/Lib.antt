@@ -1,4 +1,5 @@
 -- Laws beside the functions' own proofs, each over the setting: never once for each order or model.
+pub mod HereLaws
 pub mod SlotLaws
 pub mod ChoiceLaws
 pub mod MovingLaws
@@ -7,7 +8,6 @@ pub mod RangeLaws
 pub mod FreshLaws
 pub mod StartLaws
 pub mod AnswerLaws
-pub mod CounterLaws
 pub mod TurnLaws
 pub mod RunLaws
 pub mod CallLaws

@@ -7,6 +7,7 @@ use native.Mathlib.Numerals.{add-one}
 use native.Mathlib.Omega.{arith}
 use lib.Dec.{eqb}
 use lib.ListN.{set}
+use Rattle.job.specs.Limit.{countMost}
 use Rattle.place.specs.declared.record.Place.{Place}
 use Rattle.place.specs.declared.inner.service.Outcome.{Outcome}
 use Rattle.place.specs.Place.{movedOf}
@@ -31,12 +32,12 @@ moving-starts s at = record { within = omega arith; all-is = refl; one-is = refl
 pub record Bounded (all : Outcomes) (one : ℕ) : Type 0 where
   pub tags-high : all .tags < one
   pub shorts-high : all .shorts < one
-  pub tagged-high : all .tagged ≤ 16
-  pub short-high : all .short ≤ 16
+  pub tagged-high : all .tagged ≤ countMost
+  pub short-high : all .short ≤ countMost
   pub one-high : one ≤ 65536
 
 module _ {s : State} {at : ℕ} {all : Outcomes} {one i : ℕ} (m : Moving s at all one i) where
-  pub moving-bounded : i ≤ 16 → Bounded all one
+  pub moving-bounded : i ≤ countMost → Bounded all one
   unfolding allMoved
   moving-bounded h =
       let tags = tagsAt (s .setting) (s .places) at in
@@ -92,5 +93,5 @@ module _ {s : State} {at : ℕ} {all : Outcomes} {one i : ℕ} (m : Moving s at 
 
 -- all places of a state moved on
 pub all-bounded :
-    (s : State) (at : ℕ) {all : Outcomes} → s .count ≤ 16 → all ≡ allMoved (s .setting) (s .places) (s .count) at → Bounded all (2 ^ s .count)
+    (s : State) (at : ℕ) {all : Outcomes} → s .count ≤ countMost → all ≡ allMoved (s .setting) (s .places) (s .count) at → Bounded all (2 ^ s .count)
 all-bounded s at few e = moving-bounded {s = s} {at = at} (record { within = le-refl (s .count); all-is = e; one-is = refl }) few

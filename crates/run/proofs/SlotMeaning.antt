@@ -1,6 +1,6 @@
 -- One slot of a state in its ranges is as specs/SlotMeaning says it.
 use mathlib.Core.Path.{_≡_, refl, sym, ap, ap₂, _∙_}
-use mathlib.Core.Bool.{Bool, true, false, _&&_, _||_, not, cond}
+use mathlib.Core.Bool.{Bool, true, false, _&&_, not, cond}
 use mathlib.Core.Logic.{_↔_}
 use Prim.Native.Nat.{ℕ, _+_, _-_, _*_, _≤_, _<_}
 use native.Mathlib.Nat.{mul-le-mul-right}
@@ -10,12 +10,12 @@ use lib.IntN.{pos, _-ℤ_}
 use borrow.Author.Tests.{eqb-true, eqb-false, ne-eqb}
 use Rattle.place.specs.declared.setting.Setting.{Setting}
 use Rattle.place.specs.declared.record.Place.{Place}
-use Rattle.place.specs.declared.inner.choice.Held.{Held}
+use Rattle.place.specs.declared.inner.choice.Fraction.{Fraction}
 use Rattle.place.specs.Setting.{inOrderV}
-use Rattle.place.specs.Place.{windowLeft, finishedOf, owedOf, eligibleOf, numeratorOf, overdueOf, firstTagged, placed, servedOf, taggedOf, workedOf, windowEnds, shortOf, turnedOf, movedOf}
-use Rattle.place.specs.Choice.{distanceOf, nearerOf}
+use Rattle.place.specs.Place.{windowLeft, leftOf, finishedOf, owedOf, eligibleOf, numeratorOf, overdueOf, tagsOf, firstTagged, withService, servedOf, givenOf, taggedOf, workedOf, windowEnds, shortOf, turnedOf, movedOf}
+use Rattle.place.specs.Choice.{candidateOf, virtualAway, windowAway, distanceOf, nearerOf, soonerOf, noPlace}
 use Rattle.place.specs.Sound.{SoundPlace}
-use Rattle.place.proofs.PlaceLaws.{worked-ends}
+use Rattle.place.proofs.CounterLaws.{worked-ends, turned-on, turned-period, turned-window}
 use Rattle.place.proofs.SignedLaws.{difference-most}
 use Rattle.place.proofs.DistanceLaws.{minus, side, nearer-is, difference-parts, ltb-shift}
 use Rattle.run.specs.declared.state.State.{State}
@@ -26,8 +26,8 @@ use Rattle.run.specs.Choice.{chosenOf}
 use Rattle.run.specs.Slot.{choiceOf, tagsAt, shortsAt, allMoved, turnOf}
 use Rattle.run.specs.Sound.{SoundState}
 use Rattle.run.specs.SlotMeaning.{left, periodCloses, isRelaxed, owed, due, sooner, late, served, onward, isGiven, placeOf, dueAt, Picks, Idles, given, firstTags, endsShort, SlotDone, StepsSlot}
-use Rattle.run.proofs.ChoiceLaws.{at, away, Chosen, given-idle, given-exactly, idle-exactly}
-use Rattle.run.proofs.CounterLaws.{turned-on, turned-period, turned-window}
+use Rattle.run.proofs.HereLaws.{at, job-sound}
+use Rattle.run.proofs.ChoiceLaws.{NoCandidate, Chosen, given-idle, given-exactly, idle-exactly}
 use Rattle.run.proofs.SlotLaws.{placed-length, placed-later, mask-exactly, count-is}
 use Rattle.run.proofs.KeepLaws.{turn-place}
 use Rattle.run.proofs.AnswerLaws.{step-one-to-one, state-done}
@@ -44,8 +44,8 @@ module _ (setting : Setting) (q : Place) where
   unfolding owedOf finishedOf owed
   owed-is = refl
 
-  due-is : eligibleOf setting q ≡ due setting q
-  unfolding eligibleOf due
+  due-is : candidateOf setting q ≡ due setting q
+  unfolding candidateOf eligibleOf due
   due-is = refl
 
   late-is : overdueOf setting q ≡ late setting q
@@ -65,14 +65,14 @@ module _ (setting : Setting) (q : Place) where
 -- two distances, as fractions and as whole slots
 
 fractions :
-    (i j l l′ e e′ m m′ : ℕ)
-    → nearerOf (record { at = i; num = pos l -ℤ pos (e * m); den = m }) (record { at = j; num = pos l′ -ℤ pos (e′ * m′); den = m′ })
+    (l l′ e e′ m m′ : ℕ)
+    → nearerOf (record { num = pos l -ℤ pos (e * m); den = m }) (record { num = pos l′ -ℤ pos (e′ * m′); den = m′ })
     ≡ ltb ((l + e′ * m) * m′) ((l′ + e * m′) * m)
-fractions i j l l′ e e′ m m′ =
+fractions l l′ e e′ m m′ =
     let x = pos l -ℤ pos (e * m) in
     let y = pos l′ -ℤ pos (e′ * m′) in
-    let a : Held = record { at = i; num = x; den = m } in
-    let b : Held = record { at = j; num = y; den = m′ } in
+    let a : Fraction = record { num = x; den = m } in
+    let b : Fraction = record { num = y; den = m′ } in
     nearer-is a b
     ∙ ltb-shift (side a b) (side b a) ((l + e′ * m) * m′) ((l′ + e * m′) * m) (e * m * m′ + e′ * m * m′)
     (minus x * m′ + minus y * m)
@@ -80,42 +80,38 @@ fractions i j l l′ e e′ m m′ =
     (omega (arith, ap (_* m) (difference-parts l′ (e′ * m′))))
 
 wholes :
-    (i j l l′ e e′ : ℕ) → e ≤ l → e′ ≤ l′
-    → nearerOf (record { at = i; num = pos (l - e); den = 1 }) (record { at = j; num = pos (l′ - e′); den = 1 })
+    (l l′ e e′ : ℕ) → e ≤ l → e′ ≤ l′
+    → nearerOf (record { num = pos (l - e); den = 1 }) (record { num = pos (l′ - e′); den = 1 })
     ≡ ltb (l + e′) (l′ + e)
-wholes i j l l′ e e′ h h′ =
-    let a : Held = record { at = i; num = pos (l - e); den = 1 } in
-    let b : Held = record { at = j; num = pos (l′ - e′); den = 1 } in
+wholes l l′ e e′ h h′ =
+    let a : Fraction = record { num = pos (l - e); den = 1 } in
+    let b : Fraction = record { num = pos (l′ - e′); den = 1 } in
     nearer-is a b ∙ ltb-shift (side a b) (side b a) (l + e′) (l′ + e) (e + e′) 0 (omega arith) (omega arith)
 
 sooner-is :
-    (setting : Setting) (i j : ℕ) (q r : Place) → SoundPlace setting q → SoundPlace setting r
-    → nearerOf (distanceOf setting i q) (distanceOf setting j r) ≡ sooner setting q r
-unfolding distanceOf numeratorOf sooner owedOf finishedOf owed windowLeft
-sooner-is setting i j q r sound-q sound-r = go (inOrderV setting)
+    (setting : Setting) (q r : Place) → SoundPlace setting q → SoundPlace setting r → soonerOf setting q r ≡ sooner setting q r
+unfolding soonerOf distanceOf numeratorOf sooner owedOf finishedOf owed leftOf windowLeft
+sooner-is setting q r sound-q sound-r = go (inOrderV setting)
   where
     go :
         (t : Bool)
         → nearerOf
-        (cond t (record { at = i; num = pos (left q) -ℤ pos (q .at .e * owed setting q); den = owed setting q })
-        (record { at = i; num = pos (left q - q .at .e); den = 1 }))
-        (cond t (record { at = j; num = pos (left r) -ℤ pos (r .at .e * owed setting r); den = owed setting r })
-        (record { at = j; num = pos (left r - r .at .e); den = 1 }))
+        (cond t (virtualAway setting q) (windowAway q)) (cond t (virtualAway setting r) (windowAway r))
         ≡ cond t (ltb ((left q + r .at .e * owed setting q) * owed setting r) ((left r + q .at .e * owed setting r) * owed setting q))
         (ltb (left q + r .at .e) (left r + q .at .e))
-    go true = fractions i j (left q) (left r) (q .at .e) (r .at .e) (owed setting q) (owed setting r)
+    go true = fractions (left q) (left r) (q .at .e) (r .at .e) (owed setting q) (owed setting r)
     go false =
-        wholes i j (left q) (left r) (q .at .e) (r .at .e) (gone-high setting q sound-q) (gone-high setting r sound-r)
+        wholes (left q) (left r) (q .at .e) (r .at .e) (gone-high setting q sound-q) (gone-high setting r sound-r)
 
 -- the choice
 
 module _ (s : State) (sound : SoundState s) where
   sooner-at :
       (i j : ℕ) → i < s .count → j < s .count
-      → nearerOf (away (s .setting) (s .places) i) (away (s .setting) (s .places) j) ≡ sooner (s .setting) (placeOf s i) (placeOf s j)
-  sooner-at i j h g = sooner-is (s .setting) i j (at s i) (at s j) (sound .places i h) (sound .places j g)
+      → soonerOf (s .setting) (at s i) (at s j) ≡ sooner (s .setting) (placeOf s i) (placeOf s j)
+  sooner-at i j h g = sooner-is (s .setting) (at s i) (at s j) (job-sound sound i h) (job-sound sound j g)
 
-  due-at : (i : ℕ) → eligibleOf (s .setting) (at s i) ≡ dueAt s i
+  due-at : (i : ℕ) → candidateOf (s .setting) (at s i) ≡ dueAt s i
   due-at i = due-is (s .setting) (at s i)
 
   chosen-picks : (j : ℕ) → Chosen s j ↔ Picks s j
@@ -123,46 +119,47 @@ module _ (s : State) (sound : SoundState s) where
     λ c.
         record {
           listed = c .listed;
-          is-due = sym (due-at j) ∙ c .is-eligible;
-          none-sooner = λ i h due. sym (sooner-at i j h (c .listed)) ∙ c .none-nearer i h (due-at i ∙ due);
+          is-due = sym (due-at j) ∙ c .is-candidate;
+          none-sooner = λ i h due. sym (sooner-at i j h (c .listed)) ∙ c .none-sooner i h (due-at i ∙ due);
           lower-later =
-              λ i h due. sym (sooner-at j i (c .listed) (omega (arith, c .listed))) ∙ c .lower-farther i h (due-at i ∙ due);
+              λ i h due. sym (sooner-at j i (c .listed) (omega (arith, c .listed))) ∙ c .lower-later i h (due-at i ∙ due);
         },
     λ p.
         record {
           listed = p .listed;
-          is-eligible = due-at j ∙ p .is-due;
-          none-nearer =
-              λ i h eligible. sooner-at i j h (p .listed) ∙ p .none-sooner i h (sym (due-at i) ∙ eligible);
-          lower-farther =
-              λ i h eligible.
-              sooner-at j i (p .listed) (omega (arith, p .listed)) ∙ p .lower-later i h (sym (due-at i) ∙ eligible);
+          is-candidate = due-at j ∙ p .is-due;
+          none-sooner = λ i h is. sooner-at i j h (p .listed) ∙ p .none-sooner i h (sym (due-at i) ∙ is);
+          lower-later =
+              λ i h is. sooner-at j i (p .listed) (omega (arith, p .listed)) ∙ p .lower-later i h (sym (due-at i) ∙ is);
         },
   )
 
-  none-idles : ((i : ℕ) → i < s .count → eligibleOf (s .setting) (at s i) ≡ false) ↔ Idles s
+  none-idles : NoCandidate s ↔ Idles s
   none-idles = (λ none i h. sym (due-at i) ∙ none i h, λ idles i h. due-at i ∙ idles i h)
 
 -- the place after the slot, and the two sets
 
 module _ (setting : Setting) (q : Place) where
-  served-is : (chosen : Bool) → workedOf setting q chosen (overdueOf setting q) ≡ served setting q chosen
-  unfolding workedOf servedOf served
-  served-is chosen = rw (late-is setting q) (go chosen (isRelaxed setting) (late setting q))
+  served-is : (chosen : Bool) → workedOf setting q chosen ≡ served setting q chosen
+  unfolding workedOf givenOf tagsOf servedOf served
+  served-is chosen = rw (late-is setting q) (go chosen (isRelaxed setting))
     where
       go :
-          (given relaxed tags : Bool)
-          → cond given
-          (cond relaxed (placed q (q .at .e) (q .at .p) (q .at .u + 1) (q .at .s) (q .at .v) (q .at .tag))
-          (placed q (q .at .e) (q .at .p) (q .at .u) (cond (eqb (q .at .v + 1) (q .job .c)) (q .at .s + 1) (q .at .s)) (q .at .v + 1) (q .at .tag)))
-          (cond tags (taggedOf q) q)
-          ≡ placed q (q .at .e) (q .at .p) (cond (given && relaxed) (q .at .u + 1) (q .at .u))
+          (given relaxed : Bool)
+          → taggedOf
+          (cond given
+          (cond relaxed (withService q (q .at .u + 1) (q .at .s) (q .at .v))
+          (withService q (q .at .u) (cond (eqb (q .at .v + 1) (q .job .c)) (q .at .s + 1) (q .at .s)) (q .at .v + 1)))
+          q)
+          (not given && late setting q)
+          ≡ taggedOf
+          (withService q (cond (given && relaxed) (q .at .u + 1) (q .at .u))
           (cond (given && not relaxed && eqb (q .at .v + 1) (q .job .c)) (q .at .s + 1) (q .at .s))
-          (cond (given && not relaxed) (q .at .v + 1) (q .at .v)) ((not given && tags) || q .at .tag)
-      go true true tags = refl
-      go true false tags = refl
-      go false relaxed true = refl
-      go false relaxed false = refl
+          (cond (given && not relaxed) (q .at .v + 1) (q .at .v)))
+          (not given && late setting q)
+      go true true = refl
+      go true false = refl
+      go false relaxed = refl
 
 onward-is : (q : Place) → q .at .e < q .job .t → q .at .p ≤ q .job .k → turnedOf q ≡ onward q
 unfolding turnedOf onward
@@ -182,26 +179,26 @@ onward-is q gone within = go (eqb (q .at .e + 1) (q .job .t)) (eqb (q .at .p) (q
         turned-window q (omega arith) (omega arith) ∙ rw (e, f)
 
 -- the answer's choice says which place is chosen
-given-at : (a i : ℕ) → i < 16 → eqb i a ≡ isGiven (choiceOf a) i
+given-at : (a i : ℕ) → i < noPlace → eqb i a ≡ isGiven (choiceOf a) i
 unfolding choiceOf
-given-at a i h = go (eqb a 16) refl
+given-at a i h = go (eqb a noPlace) refl
   where
-    go : (t : Bool) → eqb a 16 ≡ t → eqb i a ≡ isGiven (cond t Idle (Given a)) i
-    go true e = ne-eqb i a (let is = eqb-true a 16 e in omega arith)
+    go : (t : Bool) → eqb a noPlace ≡ t → eqb i a ≡ isGiven (cond t Idle (Given a)) i
+    go true e = ne-eqb i a (let is = eqb-true a noPlace e in omega arith)
     go false e = refl
 
 -- and whether none is
-some-at : (a j : ℕ) → choiceOf a ≡ Given j → eqb a 16 ≡ false
+some-at : (a j : ℕ) → choiceOf a ≡ Given j → eqb a noPlace ≡ false
 unfolding choiceOf
-some-at a j = go (eqb a 16)
+some-at a j = go (eqb a noPlace)
   where
     go : (t : Bool) → cond t Idle (Given a) ≡ Given j → t ≡ false
     go true e = absurd (given-idle (sym e))
     go false e = refl
 
-none-at : (a : ℕ) → choiceOf a ≡ Idle → eqb a 16 ≡ true
+none-at : (a : ℕ) → choiceOf a ≡ Idle → eqb a noPlace ≡ true
 unfolding choiceOf
-none-at a = go (eqb a 16)
+none-at a = go (eqb a noPlace)
   where
     go : (t : Bool) → cond t Idle (Given a) ≡ Idle → t ≡ true
     go true e = refl
@@ -220,26 +217,26 @@ module _ (s : State) (sound : SoundState s) where
     chosen-is =
         given-at (chosenOf s) i (omega (arith, sound .count .high)) ∙ ap (λ (c : Choice). isGiven c i) (sym choice-is)
 
-    worked-here : workedOf (s .setting) (at s i) (eqb i (chosenOf s)) (overdueOf (s .setting) (at s i)) ≡ given s choice i
+    worked-here : workedOf (s .setting) (at s i) (eqb i (chosenOf s)) ≡ given s choice i
     worked-here = served-is (s .setting) (at s i) (eqb i (chosenOf s)) ∙ ap (served (s .setting) (at s i)) chosen-is
 
     first-here : tagsAt (s .setting) (s .places) (chosenOf s) i ≡ firstTags s choice i
-    unfolding movedOf firstTagged firstTags
+    unfolding movedOf firstTagged tagsOf firstTags
     first-here = rw (chosen-is, late-is (s .setting) (at s i))
 
     short-here : shortsAt (s .setting) (s .places) (chosenOf s) i ≡ endsShort s choice i
     unfolding movedOf shortOf endsShort windowEnds
     short-here =
-        ap₂ (λ (a : Bool) (n : ℕ). a && ltb 0 n)
-        (worked-ends (s .setting) (at s i) (eqb i (chosenOf s)) (overdueOf (s .setting) (at s i)))
+        ap₂ (λ (a : Bool) (n : ℕ). a && ltb 0 n) (worked-ends (s .setting) (at s i) (eqb i (chosenOf s)))
         (ap (owedOf (s .setting)) worked-here ∙ owed-is (s .setting) (given s choice i))
 
     place-here : placeOf (turnOf s .state) i ≡ onward (given s choice i)
     unfolding movedOf served
     place-here =
+        let place = job-sound sound i listed in
         turn-place s sound i listed
         ∙ ap turnedOf worked-here
-        ∙ onward-is (given s choice i) (sound .places i listed .e-high) (sound .places i listed .period .high)
+        ∙ onward-is (given s choice i) (place .e-high) (place .period .high)
 
 -- the slot
 

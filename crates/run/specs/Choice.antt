@@ -8,11 +8,11 @@ use Rattle.place.specs.Choice.{nobody, betterOf}
 use Rattle.run.specs.declared.state.State.{State}
 use Rattle.run.specs.State.{placeAt}
 
--- the nearest of the first n places. 'Equal: the lower job number.'
+-- the candidate to choose among the first n places
 unfoldable pub heldUpto : Setting → List Place → ℕ → Held
 heldUpto setting places zero = nobody
 heldUpto setting places (suc n) = betterOf setting (heldUpto setting places n) n (placeAt places n)
 
--- the number of the place chosen; 16 where none is eligible
+-- the number of the place chosen, or of no place
 unfoldable pub chosenOf : State → ℕ
 chosenOf s = heldUpto (s .setting) (s .places) (s .count) .at

@@ -8,6 +8,7 @@ use Rattle.place.specs.declared.setting.Setting.{Setting}
 use Rattle.place.specs.declared.record.Place.{Place}
 use Rattle.place.specs.declared.inner.service.Outcome.{Outcome}
 use Rattle.place.specs.Place.{movedOf}
+use Rattle.place.specs.Choice.{noPlace}
 use Rattle.run.specs.declared.state.Totals.{Totals}
 use Rattle.run.specs.declared.state.State.{State}
 use Rattle.run.specs.declared.answer.Choice.{Choice}
@@ -19,7 +20,7 @@ use Rattle.run.specs.Choice.{chosenOf}
 
 -- 'the choice, a job or idle'
 unfoldable pub choiceOf : ℕ → Choice
-choiceOf at = cond (eqb at 16) Idle (Given at)
+choiceOf at = cond (eqb at noPlace) Idle (Given at)
 
 -- what the slot makes of place i where the place `at` is chosen
 abbrev pub movedAt : Setting → List Place → ℕ → ℕ → Outcome
@@ -79,6 +80,6 @@ turnOf s =
             clock = s .clock + 1;
             count = s .count;
             places = all .places;
-            totals = countedOf (s .totals) (eqb at 16) (all .tagged) (all .short);
+            totals = countedOf (s .totals) (eqb at noPlace) (all .tagged) (all .short);
           };
     }

@@ -9,6 +9,7 @@ use Rattle.job.specs.Check.{jobAt}
 use Rattle.job.specs.Filled.{filledUpto}
 use Rattle.place.specs.declared.setting.Setting.{Setting}
 use Rattle.place.specs.declared.record.Place.{Place}
+use Rattle.place.specs.Setting.{settingOf}
 use Rattle.place.specs.Opening.{blank, opened}
 use Rattle.run.specs.declared.state.State.{State}
 
@@ -18,7 +19,7 @@ clockMost = 4294967295
 
 -- 'each of the other two totals is at most 16 times the clock'
 abbrev pub setsMost : ℕ
-setsMost = 16
+setsMost = countMost
 
 abbrev pub placeAt : List Place → ℕ → Place
 placeAt places i = getD places i blank
@@ -27,10 +28,10 @@ placeAt places i = getD places i blank
 abbrev pub zeros : State
 zeros =
     record {
-      setting = record { order = 0; model = 0 };
+      setting = settingOf 0 0;
       clock = 0;
       count = 0;
-      places = replicate 16 blank;
+      places = replicate countMost blank;
       totals = record { given = 0; idle = 0; tags = 0; shorts = 0 };
     }
 

@@ -16,7 +16,7 @@ pub struct State {
     pub setting: Setting,
     pub clock: u32,
     pub count: usize,
-    pub places: [Place; 16],
+    pub places: [Place; JobList::COUNT_MOST],
     pub totals: Totals,
 }
 
@@ -24,17 +24,17 @@ impl State {
     // 'slot clock: 0 to 4,294,967,295'
     pub const CLOCK_MOST: u32 = 4294967295;
     // 'each of the other two totals is at most 16 times the clock'
-    pub const SETS_MOST: u64 = 16;
+    pub const SETS_MOST: u64 = JobList::COUNT_MOST as u64;
 
     // 'the state of all zeros'
     pub fn zeros() -> State
         ensures { λ r. ⌜ ZerosPromise r ⌝ }
     {
         State {
-            setting: Setting { order: 0, model: 0 },
+            setting: Setting::of(0, 0),
             clock: 0,
             count: 0,
-            places: [Place::blank(); 16],
+            places: [Place::blank(); JobList::COUNT_MOST],
             totals: Totals {
                 given: 0,
                 idle: 0,
@@ -67,8 +67,7 @@ impl State {
     {
         self.setting.allowed()
             & (self.clock <= State::CLOCK_MOST)
-            & (1 <= self.count)
-            & (self.count <= JobList::COUNT_MOST)
+            & ((1 <= self.count) & (self.count <= JobList::COUNT_MOST))
             & range::places_in_range(self)
             & range::totals_in_range(self.clock, self.totals)
     }

@@ -9,6 +9,7 @@ use lib.ListN.{length, length-append}
 use Rattle.job.specs.declared.record.Job.{Job}
 use Rattle.text.specs.Decimal.{decimalOf}
 use Rattle.place.specs.declared.setting.Setting.{Setting}
+use Rattle.place.specs.Setting.{settingOf}
 use Rattle.sheet.specs.Form.{numberMost, orderLetter, modelLetter, firstLine, jobLine, jobLines, SmallJob}
 use Rattle.sheet.specs.Meaning.{TextDetermined, ValuesDetermined}
 use Rattle.text.proofs.DecimalLaws.{decimal-some, decimal-cut}
@@ -80,4 +81,4 @@ values-determined bytes s s′ slots slots′ jobs jobs′ is is′ =
     let model =
     letter-cut 82 79 (λ e. omega arith) (s .model) (s′ .model) (is .model) (is′ .model) (tail-eq-of-cons-eq (order .1)) in
     let count = number-cut slots slots′ (is .slots-small) (is′ .slots-small) (omega arith) (tail-eq-of-cons-eq (model .1)) in
-    (λ i. record { order = order .0 i; model = model .0 i }, count .0, jobs-cut jobs jobs′ (is .jobs-small) (is′ .jobs-small) (count .1))
+    (λ i. settingOf (order .0 i) (model .0 i), count .0, jobs-cut jobs jobs′ (is .jobs-small) (is′ .jobs-small) (count .1))

@@ -12,6 +12,7 @@ use Rattle.job.specs.Told.{Told, row, passed, toldChecked}
 use Rattle.job.specs.Sound.{Within, SoundList, LowestFault}
 use Rattle.text.specs.Ascii.{ascii}
 use Rattle.place.specs.declared.setting.Setting.{Setting}
+use Rattle.place.specs.Setting.{settingOf}
 use Rattle.sheet.specs.declared.reading.Sheet.{Sheet}
 use Rattle.sheet.specs.declared.reading.ReadSheet.{ReadSheet}
 use Rattle.sheet.specs.Form.{bytesMost, slotsMost, SheetOf, IsSheet, Begins, formList}
@@ -92,7 +93,7 @@ ReadsExactly = (bytes : List ℕ) (r : ReadSheet) → ReadPromise bytes r → Re
 abbrev pub ReadsAs : List ℕ → ℕ → ℕ → ℕ → List Job → Type 0
 ReadsAs bytes order model slots jobs =
     (r : ReadSheet) → ReadPromise bytes r
-    → (toldChecked (r .answer) ≡ passed) × Returned (r .sheet) (record { order = order; model = model }) slots jobs
+    → (toldChecked (r .answer) ≡ passed) × Returned (r .sheet) (settingOf order model) slots jobs
 
 abbrev pub CasesRead : Type 0
 CasesRead =

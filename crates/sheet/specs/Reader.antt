@@ -9,6 +9,7 @@ use Rattle.job.specs.declared.list.JobList.{JobList}
 use Rattle.job.specs.Limit.{countMost}
 use Rattle.job.specs.Check.{noJob}
 use Rattle.place.specs.declared.setting.Setting.{Setting}
+use Rattle.place.specs.Setting.{withOrder, withModel}
 use Rattle.sheet.specs.declared.reading.Sheet.{Sheet}
 use Rattle.sheet.specs.declared.reader.Reader.{Reader}
 use Rattle.sheet.specs.Sheet.{blankSheet}
@@ -80,8 +81,8 @@ storedOf r =
     let j = r .job in
     let x = r .value in
     let next = r .field + 1 in
-    cond (eqb (r .field) 0) (withSheet next j (sheetOf (record { order = x; model = s .setting .model }) (s .slots) (s .list)))
-    (cond (eqb (r .field) 1) (withSheet next j (sheetOf (record { order = s .setting .order; model = x }) (s .slots) (s .list)))
+    cond (eqb (r .field) 0) (withSheet next j (sheetOf (withOrder (s .setting) x) (s .slots) (s .list)))
+    (cond (eqb (r .field) 1) (withSheet next j (sheetOf (withModel (s .setting) x) (s .slots) (s .list)))
     (cond (eqb (r .field) 2) (withSheet next j (sheetOf (s .setting) x (s .list)))
     (cond (eqb (r .field) 3) (withSheet next (jobOf x (j .t) (j .m) (j .k)) s)
     (cond (eqb (r .field) 4) (withSheet next (jobOf (j .c) x (j .m) (j .k)) s)

@@ -5,16 +5,12 @@ use lib.Dec.{ltb, eqb}
 use Rattle.job.specs.Told.{Told, row}
 use Rattle.job.specs.Check.{listTold}
 use Rattle.job.specs.Filled.{emptyList}
+use Rattle.place.specs.Setting.{settingOf}
 use Rattle.sheet.specs.declared.reading.Sheet.{Sheet}
 use Rattle.sheet.specs.Form.{slotsMost}
 
 abbrev pub blankSheet : Sheet
-blankSheet =
-    record {
-      setting = record { order = 0; model = 0 };
-      slots = 0;
-      list = emptyList 0;
-    }
+blankSheet = record { setting = settingOf 0 0; slots = 0; list = emptyList 0 }
 
 -- '16: sheet's slot count 0 or above 4,096'
 unfoldable pub sheetTold : Sheet → Told

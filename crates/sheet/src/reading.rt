@@ -31,7 +31,7 @@ impl Sheet {
         ensures { λ r. ⌜ BlankPromise r ⌝ }
     {
         Sheet {
-            setting: Setting { order: 0, model: 0 },
+            setting: Setting::of(0, 0),
             slots: 0,
             list: JobList::empty(0),
         }

@@ -11,17 +11,18 @@ use lib.ListN.{length, take, set, length-set}
 use lib.Seq.{getD-set-same, getD-set-other, take-all, take-suc-set}
 use borrow.Author.Tests.{eqb-true}
 use mir.Val.{boolByte}
+use Rattle.job.specs.Limit.{countMost}
 use Rattle.place.specs.declared.setting.Setting.{Setting}
 use Rattle.place.specs.declared.record.Place.{Place}
 use Rattle.place.specs.declared.inner.service.Outcome.{Outcome}
 use Rattle.place.specs.declared.inner.choice.Held.{Held}
 use Rattle.place.specs.Opening.{blank}
-use Rattle.place.specs.Place.{eligibleOf, movedOf}
-use Rattle.place.specs.Choice.{Small, nobody, betterOf}
+use Rattle.place.specs.Place.{movedOf}
+use Rattle.place.specs.Choice.{SmallHeld, candidateOf, noPlace, nobody, betterOf}
 use Rattle.place.specs.Sound.{SoundPlace}
 use Rattle.run.specs.declared.state.Totals.{Totals}
 use Rattle.run.specs.declared.state.State.{State}
-use Rattle.run.specs.State.{clockMost, placeAt}
+use Rattle.run.specs.State.{clockMost, setsMost, placeAt}
 use Rattle.run.specs.Choice.{heldUpto, chosenOf}
 use Rattle.run.specs.Slot.{choiceOf, movedAt, placesUpto, countUpto, tagsAt, shortsAt, allMoved, countedOf, turnOf}
 use Rattle.run.specs.Sound.{SoundState}
@@ -29,8 +30,9 @@ use Rattle.run.specs.Answer.{byteOf}
 use Rattle.run.specs.Run.{afterSlots, choicesOf}
 use Rattle.place.proofs.PlaceLaws.{moved-sound}
 use Rattle.place.proofs.BoundLaws.{better-small, nobody-small}
+use Rattle.run.proofs.HereLaws.{job-sound}
 use Rattle.run.proofs.SlotLaws.{placed-length, placed-now, place-more, count-high, count-more}
-use Rattle.run.proofs.ChoiceLaws.{ChoiceView, none-chosen, one-chosen, choice-view, chosen-eligible}
+use Rattle.run.proofs.ChoiceLaws.{ChoiceView, none-chosen, one-chosen, choice-view, chosen-candidate}
 use Rattle.run.proofs.RunLaws.{after-more, choices-more, after-setting, after-count, after-clock, after-sound}
 
 -- a truth value as a number
@@ -44,23 +46,23 @@ plus-byte false x = add-zero x
 
 -- what is known of the places as a slot begins
 pub record Ready (setting : Setting) (count : ℕ) (places : List Place) (chosen : ℕ) : Type 0 where
-  pub few : count ≤ 16
-  pub long : length places ≡ 16
+  pub few : count ≤ countMost
+  pub long : length places ≡ countMost
   pub sound : (i : ℕ) → i < count → SoundPlace setting (placeAt places i)
-  pub fair : (i : ℕ) → i < count → i ≡ chosen → eligibleOf setting (placeAt places i) ≡ true
+  pub fair : (i : ℕ) → i < count → i ≡ chosen → candidateOf setting (placeAt places i) ≡ true
 
--- the first i places are moved on, and `best` is the nearest of them for the next slot
+-- the first i places are moved on, and `best` is the one of them to choose for the next slot
 pub record Passing
     (setting : Setting) (before : List Place) (chosen count : ℕ) (places : List Place) (best : Held) (tagged short i : ℕ) : Type 0
   where
     pub within : i ≤ count
     pub places-are : places ≡ placesUpto setting before chosen i
     pub best-is : best ≡ heldUpto setting places i
-    pub best-small : Small best
+    pub best-small : SmallHeld best
     pub tagged-is : tagged ≡ countUpto (tagsAt setting before chosen) i
     pub short-is : short ≡ countUpto (shortsAt setting before chosen) i
 
--- the nearest of the first n places looks at no place behind them
+-- the choice among the first n places looks at no place behind them
 held-below :
     (setting : Setting) (places : List Place) (i : ℕ) (q : Place) (n : ℕ) → n ≤ i
     → heldUpto setting (set places i q) n ≡ heldUpto setting places n
@@ -95,7 +97,7 @@ module _ (setting : Setting) (before : List Place) (chosen count : ℕ) where
   module _
       (ready : Ready setting count before chosen) {places : List Place} {best : Held} {tagged short i : ℕ}
       (p : Passing setting before chosen count places best tagged short i) where
-    pub pass-counts : (tagged ≤ 16) × (short ≤ 16)
+    pub pass-counts : (tagged ≤ countMost) × (short ≤ countMost)
     pass-counts =
         let few = ready .few in
         let within = p .within in (
@@ -109,13 +111,13 @@ module _ (setting : Setting) (before : List Place) (chosen count : ℕ) where
     pass-reads : placeAt places i ≡ placeAt before i
     pass-reads = placed-now setting before chosen i (p .places-are)
 
-    pass-long : length places ≡ 16
+    pass-long : length places ≡ countMost
     pass-long = ap length (p .places-are) ∙ placed-length setting before chosen i ∙ ready .long
 
     pub pass-sound : SoundPlace setting (placeAt places i)
     pass-sound = rw pass-reads (ready .sound i listed)
 
-    pub pass-fair : eqb i chosen ≡ true → eligibleOf setting (placeAt places i) ≡ true
+    pub pass-fair : eqb i chosen ≡ true → candidateOf setting (placeAt places i) ≡ true
     pass-fair e = rw pass-reads (ready .fair i listed (eqb-true i chosen e))
 
     module _ {o : Outcome} (moves : o ≡ movedOf setting (placeAt places i) (eqb i chosen)) where
@@ -136,7 +138,7 @@ module _ (setting : Setting) (before : List Place) (chosen count : ℕ) where
                 b
                 ∙ ap (λ (h : Held). betterOf setting h i (o .place)) (p .best-is)
                 ∙ sym (held-next setting places i (o .place) (omega (arith, pass-long, ready .few)));
-            best-small = rw b (better-small pass-moved-sound (p .best-small) i);
+            best-small = rw b (better-small best pass-moved-sound (p .best-small) i);
             tagged-is = count-more (tagsAt setting before chosen) i (ap (λ (x : Outcome). x .tagged) here) (p .tagged-is) t;
             short-is = count-more (shortsAt setting before chosen) i (ap (λ (x : Outcome). x .short) here) (p .short-is) s;
           }
@@ -163,10 +165,10 @@ unfolding afterSlots choicesOf
 fill-starts s buf e =
     record { within = omega arith; long = refl; places-are = refl; totals-are = refl; chosen-is = e; written = refl }
 
-chosen-high : (g : State) → g .count ≤ 16 → chosenOf g ≤ 16
+chosen-high : (g : State) → g .count ≤ countMost → chosenOf g ≤ noPlace
 chosen-high g few = go (chosenOf g) (choice-view g)
   where
-    go : (j : ℕ) → ChoiceView g j → j ≤ 16
+    go : (j : ℕ) → ChoiceView g j → j ≤ noPlace
     go j (none-chosen none) = omega arith
     go j (one-chosen _ c) = omega (arith, c .listed)
 
@@ -178,7 +180,7 @@ module _ (g : State) where
 
   turn-totals :
       turnOf g .state .totals
-      ≡ countedOf (g .totals) (eqb (chosenOf g) 16) (countUpto (tagsAt (g .setting) (g .places) (chosenOf g)) (g .count))
+      ≡ countedOf (g .totals) (eqb (chosenOf g) noPlace) (countUpto (tagsAt (g .setting) (g .places) (chosenOf g)) (g .count))
       (countUpto (shortsAt (g .setting) (g .places) (chosenOf g)) (g .count))
   unfolding turnOf allMoved
   turn-totals = refl
@@ -197,7 +199,7 @@ module _
   here-sound : SoundState (afterSlots s n)
   here-sound = after-sound s sound n (let h = f .within in omega arith)
 
-  pub fill-chosen : chosen ≤ 16
+  pub fill-chosen : chosen ≤ noPlace
   fill-chosen = rw (f .chosen-is) (chosen-high (afterSlots s n) (here-sound .count .high))
 
   pub fill-ready : Ready (s .setting) (s .count) places chosen
@@ -208,14 +210,14 @@ module _
         sound =
             λ i h.
             subst (λ (x : Setting). SoundPlace x (placeAt places i)) (after-setting s n)
-            (rw (f .places-are) (here-sound .places i (omega (arith, after-count s n))));
+            (rw (f .places-are) (job-sound here-sound i (omega (arith, after-count s n))));
         fair =
             λ i h e.
-            subst (λ (x : Setting). eligibleOf x (placeAt places i) ≡ true) (after-setting s n)
-            (rw (f .places-are) (chosen-eligible (afterSlots s n) i (omega (arith, sound .count .high)) (e ∙ f .chosen-is)));
+            subst (λ (x : Setting). candidateOf x (placeAt places i) ≡ true) (after-setting s n)
+            (rw (f .places-are) (chosen-candidate (afterSlots s n) i (omega (arith, sound .count .high)) (e ∙ f .chosen-is)));
       }
 
-  pub fill-totals : n < len → (totals .given + totals .idle < clockMost) × (totals .tags ≤ 16 * clockMost) × (totals .shorts ≤ 16 * clockMost)
+  pub fill-totals : n < len → (totals .given + totals .idle < clockMost) × (totals .tags ≤ setsMost * clockMost) × (totals .shorts ≤ setsMost * clockMost)
   fill-totals h =
       let g = here-sound in
       rw (f .totals-are) (omega (arith, g .slots, g .tags-high, g .shorts-high, after-clock s n))
@@ -223,7 +225,7 @@ module _
   pub fill-more :
       {places′ : List Place} {best : Held} {tagged short : ℕ} {byte : ℕ} {totals′ : Totals} → n < len
       → Passing (s .setting) places chosen (s .count) places′ best tagged short (s .count)
-      → byte ≡ byteOf (choiceOf chosen) → totals′ ≡ countedOf totals (eqb chosen 16) tagged short
+      → byte ≡ byteOf (choiceOf chosen) → totals′ ≡ countedOf totals (eqb chosen noPlace) tagged short
       → Filling s len (set buf n byte) places′ totals′ (best .at) (n + 1)
   fill-more {places′} {best} {tagged} {short} {byte} {totals′} h p b t =
       let g = afterSlots s n in

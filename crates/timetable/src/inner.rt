@@ -2,11 +2,13 @@
 ghost use mathlib.Core.Path.{_≡_};
 ghost use Prim.Native.Nat.{_+_, _≤_};
 ghost use lib.ListN.{length};
+ghost use Rattle.place.specs.Choice.{noPlace};
 ghost use Rattle.run.specs.State.{clockMost};
 ghost use Rattle.run.specs.Sound.{SoundState};
 ghost use Rattle.run.specs.Slot.{choiceOf};
 ghost use Rattle.run.specs.Answer.{byteOf};
 ghost use Rattle.run.specs.Run.{afterSlots, choicesOf};
+use place::inner::choice::Held;
 use place::inner::choice::better;
 use place::inner::choice::nobody;
 use place::inner::service::moved;
@@ -16,10 +18,14 @@ use run::inner::slot::counted;
 
 // 'one byte each, 0 to 15 or 255 for idle'
 fn byte_of(chosen: usize) -> u8
-    requires { ⌜ chosen ≤ 16 ⌝ }
+    requires { ⌜ chosen ≤ noPlace ⌝ }
     ensures { λ r. ⌜ r ≡ byteOf (choiceOf chosen) ⌝ }
 {
-    if chosen == 16 { 255 } else { chosen as u8 }
+    if chosen == Held::NO_PLACE {
+        255
+    } else {
+        chosen as u8
+    }
 }
 
 // Fills the buffer with the next choices, a slot for each byte, and returns the state after them.
@@ -52,7 +58,7 @@ pub(crate) fn fill(state: State, buf: &mut [u8]) -> State
             i += 1;
         }
         buf[n] = byte_of(chosen);
-        totals = counted(totals, chosen == 16, tagged, short);
+        totals = counted(totals, chosen == Held::NO_PLACE, tagged, short);
         chosen = best.at;
         n += 1;
     }

@@ -19,6 +19,9 @@ slice-aggregate-print c = search needs
 print-requires-2 : tie.Need-print-requires-2 Inv-loop μ-loop
 print-requires-2 c κs = search needs
 
+of-requires : tie.Need-of-requires Inv-loop μ-loop
+of-requires c κs = search needs
+
 start-requires : tie.Need-start-requires Inv-loop μ-loop
 start-requires c κs = search needs
 
@@ -52,6 +55,7 @@ print-run-spec =
     print-requires
     slice-aggregate-print
     print-requires-2
+    of-requires
     start-requires
     loop-holds
     print-step-requires

@@ -3,7 +3,9 @@ ghost use mathlib.Core.Path.{_≡_};
 ghost use mathlib.Core.Bool.{true};
 ghost use lib.Dec.{ltb};
 ghost use Rattle.place.specs.Sound.{SoundPlace};
-ghost use Rattle.place.specs.Place.{finishedOf, owedOf, windowLeft, eligibleOf, numeratorOf, overdueOf, firstTagged, servedOf, taggedOf, workedOf, windowEnds, turnedOf, shortOf, movedOf};
+ghost use Rattle.place.specs.Setting.{byUnits};
+ghost use Rattle.place.specs.Place.{finishedOf, owedOf, windowLeft, leftOf, eligibleOf, numeratorOf, overdueOf, tagsOf, firstTagged, servedOf, givenOf, taggedOf, windowEnds, turnedOf, shortOf, movedOf};
+ghost use Rattle.place.specs.Choice.{candidateOf};
 use crate::record::Place;
 use crate::record::Progress;
 use crate::setting::Setting;
@@ -16,12 +18,19 @@ pub struct Outcome {
     pub short: bool,
 }
 
+// How service is kept: by units, or by instances.
+pub(crate) fn by_units(setting: Setting) -> bool
+    ensures { λ r. ⌜ r ≡ byUnits setting ⌝ }
+{
+    setting.model == Job::RELAXED
+}
+
 // The instances finished in this window.
 fn finished(setting: Setting, q: Place) -> u32
     requires { ⌜ SoundPlace setting q ⌝ }
     ensures { λ r. ⌜ r ≡ finishedOf setting q ⌝ }
 {
-    if setting.model == Job::RELAXED {
+    if by_units(setting) {
         return q.at.u / q.job.c;
     }
     q.at.s
@@ -43,12 +52,20 @@ pub(crate) fn window_left(setting: Setting, q: Place) -> u32
     (q.job.k - q.at.p + 1) * q.job.t
 }
 
+// k'T − e, the slots from now to the window's end.
+pub(crate) fn left(setting: Setting, q: Place) -> u32
+    requires { ⌜ SoundPlace setting q ⌝ }
+    ensures { λ r. ⌜ r ≡ leftOf q ⌝ }
+{
+    window_left(setting, q) - q.at.e
+}
+
 // 'u < m times C and u < p times C' is u < (the less of m and p) times C: one product.
 pub(crate) fn eligible(setting: Setting, q: Place) -> bool
     requires { ⌜ SoundPlace setting q ⌝ }
     ensures { λ r. ⌜ r ≡ eligibleOf setting q ⌝ }
 {
-    if setting.model == Job::RELAXED {
+    if by_units(setting) {
         let most = if q.at.p < q.job.m { q.at.p } else { q.job.m };
         return q.at.u < most * q.job.c;
     }
@@ -70,7 +87,7 @@ fn lacks(setting: Setting, q: Place) -> bool
     requires { ⌜ SoundPlace setting q ⌝ }
     ensures { λ r. ⌜ r ≡ ltb 0 (owedOf setting q) ⌝ }
 {
-    if setting.model == Job::RELAXED {
+    if by_units(setting) {
         return q.at.u < q.job.m * q.job.c;
     }
     q.at.s < q.job.m
@@ -85,26 +102,37 @@ fn overdue(setting: Setting, q: Place) -> bool
     window_left(setting, q) <= (q.at.e + 1) * owed(setting, q)
 }
 
-// Whether the slot tags the place for the first time in its window. While more than m periods are
-// left, this one counted, no deadline is that near.
-fn first_tagged(setting: Setting, q: Place, chosen: bool) -> bool
+// Whether the slot tags the place. While more than m periods are left, this one counted, no deadline
+// is that near.
+fn tags(setting: Setting, q: Place, chosen: bool) -> bool
     requires { ⌜ SoundPlace setting q ⌝ }
-    ensures { λ r. ⌜ r ≡ firstTagged setting q chosen ⌝ }
+    ensures { λ r. ⌜ r ≡ tagsOf setting q chosen ⌝ }
 {
-    if chosen | q.at.tag | (q.at.p + q.job.m <= q.job.k) {
+    if chosen | (q.at.p + q.job.m <= q.job.k) {
         return false;
     }
     overdue(setting, q)
 }
 
+// Whether it does so for the first time in the place's window.
+fn first_tagged(setting: Setting, q: Place, chosen: bool) -> bool
+    requires { ⌜ SoundPlace setting q ⌝ }
+    ensures { λ r. ⌜ r ≡ firstTagged setting q chosen ⌝ }
+{
+    if q.at.tag {
+        return false;
+    }
+    tags(setting, q, chosen)
+}
+
 // One more unit.
 fn served(setting: Setting, q: Place) -> Place
     requires { ⌜ SoundPlace setting q ⌝ }
-    requires { ⌜ eligibleOf setting q ≡ true ⌝ }
+    requires { ⌜ candidateOf setting q ≡ true ⌝ }
     ensures { λ r. ⌜ r ≡ servedOf setting q ⌝ }
 {
     let mut next = q;
-    if setting.model == Job::RELAXED {
+    if by_units(setting) {
         let u = q.at.u + 1;
         next.at.u = u;
         return next;
@@ -118,27 +146,26 @@ fn served(setting: Setting, q: Place) -> Place
     next
 }
 
-fn tagged(q: Place) -> Place
-    ensures { λ r. ⌜ r ≡ taggedOf q ⌝ }
-{
-    let mut next = q;
-    next.at.tag = true;
-    next
-}
-
-// The service or the tag of the slot, before the slot passes.
-fn worked(setting: Setting, q: Place, chosen: bool, late: bool) -> Place
+// The service of the slot.
+fn given(setting: Setting, q: Place, chosen: bool) -> Place
     requires { ⌜ SoundPlace setting q ⌝ }
-    requires { ⌜ (chosen ≡ true → eligibleOf setting q ≡ true) ⌝ }
-    ensures { λ r. ⌜ r ≡ workedOf setting q chosen late ⌝ }
+    requires { ⌜ (chosen ≡ true → candidateOf setting q ≡ true) ⌝ }
+    ensures { λ r. ⌜ r ≡ givenOf setting q chosen ⌝ }
 {
     if chosen {
         return served(setting, q);
     }
-    if late {
-        return tagged(q);
-    }
     q
+}
+
+fn tagged(q: Place, tags: bool) -> Place
+    ensures { λ r. ⌜ r ≡ taggedOf q tags ⌝ }
+{
+    let mut next = q;
+    if tags {
+        next.at.tag = true;
+    }
+    next
 }
 
 // Whether this slot is the window's last.
@@ -182,19 +209,19 @@ fn turned(setting: Setting, q: Place) -> Place
     next
 }
 
-// All that one slot does to one place.
+// All that one slot does to one place: its service, then its tag, then the slot passes.
 pub fn moved(setting: Setting, q: Place, chosen: bool) -> Outcome
     requires { ⌜ SoundPlace setting q ⌝ }
-    requires { ⌜ (chosen ≡ true → eligibleOf setting q ≡ true) ⌝ }
+    requires { ⌜ (chosen ≡ true → candidateOf setting q ≡ true) ⌝ }
     ensures { λ r. ⌜ r ≡ movedOf setting q chosen ⌝ }
 {
-    let tagged = first_tagged(setting, q, chosen);
-    let given = worked(setting, q, chosen, tagged);
-    let short = is_short(setting, given);
-    let place = turned(setting, given);
+    let first = first_tagged(setting, q, chosen);
+    let worked = tagged(given(setting, q, chosen), first);
+    let short = is_short(setting, worked);
+    let place = turned(setting, worked);
     Outcome {
         place,
-        tagged,
+        tagged: first,
         short,
     }
 }

@@ -1,4 +1,4 @@
-// The choice: the eligible place of least distance, the lower number where two are equal.
+// The choice: the candidate that none is before, the lower number where two are equal.
 ghost use mathlib.Core.Path.{_≡_};
 ghost use Rattle.run.specs.Sound.{SoundState};
 ghost use Rattle.run.specs.Choice.{chosenOf};
@@ -6,7 +6,7 @@ use crate::state::State;
 use place::inner::choice::better;
 use place::inner::choice::nobody;
 
-// The number of the place chosen, or 16 where none is eligible.
+// The number of the place chosen, or of no place where there is no candidate.
 pub fn choose(state: State) -> usize
     requires { ⌜ SoundState state ⌝ }
     ensures { λ r. ⌜ r ≡ chosenOf state ⌝ }

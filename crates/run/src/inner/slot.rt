@@ -11,7 +11,9 @@ use crate::answer::Slot;
 use crate::inner::choice::choose;
 use crate::state::State;
 use crate::state::Totals;
+use job::JobList;
 use place::Place;
+use place::inner::choice::Held;
 use place::inner::service::moved;
 
 pub struct Turned {
@@ -21,7 +23,7 @@ pub struct Turned {
 
 // The places after the slot; the masks of the two sets, and how many jobs each has.
 pub struct Outcomes {
-    pub places: [Place; 16],
+    pub places: [Place; JobList::COUNT_MOST],
     pub tags: u32,
     pub shorts: u32,
     pub tagged: u32,
@@ -39,7 +41,7 @@ fn plus_if(b: bool, x: u32, more: u32) -> u32
 fn choice_of(at: usize) -> Choice
     ensures { λ r. ⌜ r ≡ choiceOf at ⌝ }
 {
-    if at == 16 {
+    if at == Held::NO_PLACE {
         Choice::Idle
     } else {
         Choice::Given(at)
@@ -98,7 +100,7 @@ pub(crate) fn turn(state: State) -> Turned
 {
     let at = choose(state);
     let all = all_moved(state, at);
-    let idle = at == 16;
+    let idle = at == Held::NO_PLACE;
     let slot = Slot {
         choice: choice_of(at),
         tags: all.tags as u16,

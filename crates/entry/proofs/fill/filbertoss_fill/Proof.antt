@@ -6,37 +6,36 @@ use lib.ListN.{length}
 use borrow.Author.Needs.{needs}
 use borrow.Author.Tests.{ne-eqb}
 use Rattle.job.specs.Told.{Told}
-use Rattle.place.specs.declared.setting.Setting.{Setting}
+use Rattle.place.specs.Setting.{settingOf}
 use Rattle.run.specs.Step.{startTold}
 use Rattle.entry.specs.JobBytes.{listFrom}
 use Rattle.entry.proofs.EntryLaws.{fill-broken, fill-starts, bytes-stay, writes-on}
 use Rattle.entry.proofs.fill.filbertoss_fill.Statement.{statement}
 use Rattle.entry.proofs.fill.filbertoss_fill.Tie as tie
 
--- the setting that is handed over, and the number that the start answers
-settingOf : (c : tie.Start) → Setting
-settingOf c = record { order = c .args .order; model = c .args .model }
-
+-- the number that the start answers
 started-number :
     (c : tie.After-number2)
-    → let start = c .before .before .before .before .before .before in
-    c .number2 .result ≡ startTold (listFrom (start .args .jobs .now)) (settingOf start) .number
-unfolding settingOf
-started-number c = cc (c .number2 .ensures, c .before .start .ensures .0, c .before .before .list-from .ensures)
+    → let start = c .before .before .before .before .before .before .before in
+    c .number2 .result ≡ startTold (listFrom (start .args .jobs .now)) (settingOf (start .args .order) (start .args .model)) .number
+started-number c =
+    cc (c .number2 .ensures, c .before .start .ensures .0, c .before .before .of .ensures, c .before .before .before .list-from .ensures)
 
 number-requires : tie.Need-number-requires
 number-requires c κs = search needs
 
 returns : tie.Need-returns
-unfolding settingOf
 returns c =
     let start = c .before .before .before .before in
     let args = start .args in
-    let told = fill-broken (args .jobs .now) (settingOf start) (length (args .buf .now)) (args .offset) (args .n) (c .before .if1 .taken) in
+    let told = fill-broken (args .jobs .now) (settingOf (args .order) (args .model)) (length (args .buf .now)) (args .offset) (args .n) (c .before .if1 .taken) in
     (c .number .ensures ∙ ap (λ (t : Told). t .number) (sym told), bytes-stay _ _ _ _ _ told refl)
 
 list-from-requires : tie.Need-list-from-requires
 list-from-requires c κs = search needs
+
+of-requires : tie.Need-of-requires
+of-requires c κs = search needs
 
 start-requires : tie.Need-start-requires
 start-requires c κs = search needs
@@ -45,13 +44,12 @@ number-requires-2 : tie.Need-number-requires-2
 number-requires-2 c κs = search needs
 
 returns-2 : tie.Need-returns-2
-unfolding settingOf
 returns-2 c =
-    let start = c .before .before .before .before .before .before .before in
+    let start = c .before .before .before .before .before .before .before .before in
     let args = start .args in
     let number = started-number (c .before) in
     let refused = ap (λ (x : ℕ). eqb x 0) (sym number) ∙ ne-eqb (c .before .number2 .result) 0 (c .if2 .taken) in
-    let told = fill-starts (args .jobs .now) (settingOf start) (length (args .buf .now)) (args .offset) (args .n) (c .before .before .before .before .if1 .left) refused in
+    let told = fill-starts (args .jobs .now) (settingOf (args .order) (args .model)) (length (args .buf .now)) (args .offset) (args .n) (c .before .before .before .before .before .if1 .left) refused in
     (number ∙ ap (λ (t : Told). t .number) (sym told), bytes-stay _ _ _ _ _ told refused)
 
 write-requires : tie.Need-write-requires
@@ -64,18 +62,18 @@ same-length : tie.Need-same-length
 same-length c = search needs
 
 returns-3 : tie.Need-returns-3
-unfolding settingOf
 returns-3 c =
     let writes = c .before .before .before .before .before .before in
-    let start = writes .before .before .before .before .before .before .before in
+    let start = writes .before .before .before .before .before .before .before .before in
     let args = start .args in
-    let whole = writes .before .before .before .before .if1 .left in
+    let whole = writes .before .before .before .before .before .if1 .left in
     let passes = sym (started-number (writes .before)) ∙ writes .if2 .left in
     let state = writes .before .before .start .ensures .1 in
-    let list = writes .before .before .before .list-from .ensures in
+    let made = writes .before .before .before .of .ensures in
+    let list = writes .before .before .before .before .list-from .ensures in
     let write = c .before .before .before .write .ensures in
-    let on = writes-on (args .jobs .now) (settingOf start) (args .buf .now) (args .offset) (args .n) whole passes in
-    (cc (c .number3 .ensures, write .0, state, list, on .told-is), cc (write .2, state, list, on .bytes-are))
+    let on = writes-on (args .jobs .now) (settingOf (args .order) (args .model)) (args .buf .now) (args .offset) (args .n) whole passes in
+    (cc (c .number3 .ensures, write .0, state, made, list, on .told-is), cc (write .2, state, made, list, on .bytes-are))
 
 pub filbertoss-fill-spec : {M : Type 1} → statement M
 filbertoss-fill-spec =
@@ -84,6 +82,7 @@ filbertoss-fill-spec =
     number-requires
     returns
     list-from-requires
+    of-requires
     start-requires
     number-requires-2
     returns-2

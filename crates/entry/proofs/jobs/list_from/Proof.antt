@@ -4,6 +4,7 @@ use Prim.Native.Nat.{_-_, _/_, _≤_}
 use native.Mathlib.Omega.{arith}
 use lib.ListN.{length}
 use borrow.Author.Needs.{needs}
+use Rattle.job.specs.Limit.{countMost}
 use Rattle.job.specs.Filled.{listUpto}
 use Rattle.entry.specs.JobBytes.{jobFrom}
 use Rattle.job.proofs.WalkLaws.{below-first, below-second, at-the-end}
@@ -12,10 +13,10 @@ use Rattle.entry.proofs.jobs.list_from.Statement.{statement}
 use Rattle.entry.proofs.jobs.list_from.Tie as tie
 
 abbrev Inv-loop : tie.InvT-loop
-Inv-loop bytes count list₀ at₀ list at = (at ≤ length bytes / 6) × (at ≤ 16) × (list ≡ listUpto (jobFrom bytes) (length bytes / 6) at)
+Inv-loop bytes count list₀ at₀ list at = (at ≤ length bytes / 6) × (at ≤ countMost) × (list ≡ listUpto (jobFrom bytes) (length bytes / 6) at)
 
 abbrev μ-loop : tie.MeasureT-loop
-μ-loop bytes count list₀ at₀ list at = 16 - at
+μ-loop bytes count list₀ at₀ list at = countMost - at
 
 empty-requires : tie.Need-empty-requires Inv-loop μ-loop
 empty-requires c κs = search needs
@@ -50,7 +51,7 @@ returns : tie.Need-returns Inv-loop μ-loop
 returns c =
     let count = length (c .before .before .before .before .args .bytes .now) / 6 in
     let loop = c .before .loop in
-    rw (at-the-end (loop .at) count 16 (c .loop-test .left) (loop .inv .0) (loop .inv .1)) at (loop .inv .2)
+    rw (at-the-end (loop .at) count countMost (c .loop-test .left) (loop .inv .0) (loop .inv .1)) at (loop .inv .2)
 
 pub list-from-spec : {M : Type 1} → statement M
 list-from-spec =

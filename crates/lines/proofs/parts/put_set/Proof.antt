@@ -4,6 +4,7 @@ use mathlib.Core.Logic.{⊎-elim}
 use Prim.Native.Nat.{_-_, _/_, _^_, _≤_}
 use native.Mathlib.Nat.{div-one}
 use native.Mathlib.Omega.{arith}
+use Rattle.job.specs.Limit.{countMost}
 use Rattle.text.proofs.WrittenLaws.{Ends, ends-length, ends-at-once}
 use Rattle.lines.specs.Slot.{setText}
 use Rattle.lines.proofs.SetLaws.{half, has-room, put-in, put-out}
@@ -12,10 +13,10 @@ use Rattle.lines.proofs.parts.put_set.Tie as tie
 
 abbrev Inv-loop : tie.InvT-loop
 Inv-loop buf₀ at label set end₀ rest₀ job₀ buf end rest job =
-    (job ≤ 16) × (rest ≡ set / 2 ^ job) × Ends buf₀ at (setText label set job) buf end
+    (job ≤ countMost) × (rest ≡ set / 2 ^ job) × Ends buf₀ at (setText label set job) buf end
 
 abbrev μ-loop : tie.MeasureT-loop
-μ-loop buf₀ at label set end₀ rest₀ job₀ buf end rest job = 16 - job
+μ-loop buf₀ at label set end₀ rest₀ job₀ buf end rest job = countMost - job
 
 loop-holds : tie.Need-loop-holds Inv-loop μ-loop
 unfolding setText
@@ -58,7 +59,7 @@ returns : tie.Need-returns Inv-loop μ-loop
 returns c =
     let a = c .before .before .before .before .args in
     let l = c .before .loop in
-    let all : l .job ≡ 16 = omega arith in
+    let all : l .job ≡ countMost = omega arith in
     let whole = rw all at (l .inv .2) in
     (whole .place, whole .bytes)
 

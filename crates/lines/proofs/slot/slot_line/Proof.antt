@@ -1,6 +1,7 @@
 -- `slot_line` meets its contract: its parts, one after the other. Assumes nothing.
 use native.Mathlib.Omega.{arith}
 use borrow.Author.Needs.{needs}
+use Rattle.job.specs.Limit.{countMost}
 use Rattle.text.specs.Ascii.{ascii}
 use Rattle.text.specs.Decimal.{decimalOf}
 use Rattle.text.proofs.WrittenLaws.{ends, followed}
@@ -63,8 +64,8 @@ returns c =
     (followed (ends (a .buf .now) 0 (decimalOf (a .number)) (c .before .before .before .before .before .before .before .before .before .before .before .before .before .before .put-decimal .ensures) (omega arith))
     (followed (ends _ _ (ascii " ") (c .before .before .before .before .before .before .before .before .before .before .before .put-text .ensures) (omega arith))
     (followed (ends _ _ (choiceText (a .slot .choice)) (c .before .before .before .before .before .before .before .before .before .put-choice .ensures) (omega arith))
-    (followed (ends _ _ (setText (ascii " t") (a .slot .tags) 16) (c .before .before .before .before .before .before .put-set .ensures) (omega arith))
-    (followed (ends _ _ (setText (ascii " s") (a .slot .shorts) 16) (c .before .before .before .put-set2 .ensures) (omega arith))
+    (followed (ends _ _ (setText (ascii " t") (a .slot .tags) countMost) (c .before .before .before .before .before .before .put-set .ensures) (omega arith))
+    (followed (ends _ _ (setText (ascii " s") (a .slot .shorts) countMost) (c .before .before .before .put-set2 .ensures) (omega arith))
     (ends _ _ (ascii "\n") (c .put-text2 .ensures) (omega arith)))))))
 
 pub slot-line-spec : {M : Type 1} → statement M

@@ -3,6 +3,7 @@ use mathlib.Core.Path.{_≡_, sym}
 use Prim.Native.Nat.{_≤_, _-_}
 use native.Mathlib.Omega.{arith}
 use borrow.Author.Needs.{needs}
+use Rattle.job.specs.Limit.{countMost}
 use Rattle.run.specs.Range.{placesInRange}
 use Rattle.run.proofs.RangeLaws.{no-place, one-more-place}
 use Rattle.run.proofs.range.places_in_range.Statement.{statement}
@@ -10,10 +11,10 @@ use Rattle.run.proofs.range.places_in_range.Tie as tie
 
 abbrev Inv-loop : tie.InvT-loop
 Inv-loop state setting count ok₀ i₀ ok i =
-    (i ≤ 16) × (ok ≡ placesInRange (state .setting) (state .count) (state .places) i)
+    (i ≤ countMost) × (ok ≡ placesInRange (state .setting) (state .count) (state .places) i)
 
 abbrev μ-loop : tie.MeasureT-loop
-μ-loop state setting count ok₀ i₀ ok i = 16 - i
+μ-loop state setting count ok₀ i₀ ok i = countMost - i
 
 loop-holds : tie.Need-loop-holds Inv-loop μ-loop
 loop-holds c =
@@ -41,7 +42,7 @@ loop-again c =
     (omega arith, rw (c .before .before .before .loop .inv .1, c .place-in-range .ensures) (sym (one-more-place (s .setting) (s .count) (s .places) (c .before .before .before .loop .i))))
 
 returns : tie.Need-returns Inv-loop μ-loop
-returns c = let all : c .before .loop .i ≡ 16 = omega arith in rw all at (c .before .loop .inv .1)
+returns c = let all : c .before .loop .i ≡ countMost = omega arith in rw all at (c .before .loop .inv .1)
 
 pub places-in-range-spec : {M : Type 1} → statement M
 places-in-range-spec =

@@ -58,10 +58,10 @@ moved-requires c κs =
     (pass-sound _ _ _ _ (slot-ready h) (h .loop2 .inv) (omega arith), pass-fair _ _ _ _ (slot-ready h) (h .loop2 .inv) (omega arith))
 
 mul-places : tie.Need-mul-places Inv-loop2 μ-loop2 Inv-loop μ-loop
-mul-places c = search needs
+mul-places c = let few = slot-ready (c .before .before .before .before) .few in omega arith
 
 array-set-from-places : tie.Need-array-set-from-places Inv-loop2 μ-loop2 Inv-loop μ-loop
-array-set-from-places c = search needs
+array-set-from-places c = let few = slot-ready (c .before .before .before .before) .few in omega arith
 
 cast-tagged : tie.Need-cast-tagged Inv-loop2 μ-loop2 Inv-loop μ-loop
 cast-tagged c = search needs

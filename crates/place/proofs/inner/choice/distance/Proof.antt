@@ -1,15 +1,14 @@
 -- `distance` meets its contract. Assumes nothing.
 use mathlib.Core.Path.{_≡_}
-use mathlib.Core.Bool.{true, false}
-use Prim.Native.Nat.{_-_, _≤_}
+use Prim.Native.Nat.{_≤_}
 use native.Mathlib.Omega.{arith}
 use borrow.Author.Needs.{needs}
 use borrow.Author.Tests.{eq-eqb, ne-eqb}
 use mir.Facts.{toZ-ofZ}
-use Rattle.place.specs.Place.{windowLeft}
+use Rattle.place.specs.Place.{leftOf}
+use Rattle.place.specs.Choice.{distanceOf}
 use Rattle.place.proofs.SignedLaws.{small-pos}
-use Rattle.place.proofs.BoundLaws.{window-high, window-low, numerator-fits}
-use Rattle.place.proofs.CaseLaws.{distance-by}
+use Rattle.place.proofs.BoundLaws.{left-high, numerator-fits}
 use Rattle.place.proofs.inner.choice.distance.Statement.{statement}
 use Rattle.place.proofs.inner.choice.distance.Tie as tie
 
@@ -23,27 +22,25 @@ cast-den : tie.Need-cast-den
 cast-den c = search needs
 
 returns : tie.Need-returns
+unfolding distanceOf
 returns c =
-    let s = c .before .before .before .before .pre in
-    let e : c .before .before .before .before .args .setting .order ≡ 0 = omega arith in
-    simp (c .owed .ensures, c .before .numerator .ensures, toZ-ofZ (numerator-fits s)) (distance-by _ _ _ true (eq-eqb _ _ e))
+    let start = c .before .before .before .before in
+    let e : start .args .setting .order ≡ 0 = omega arith in
+    simp (eq-eqb (start .args .setting .order) 0 e, c .owed .ensures, c .before .numerator .ensures, toZ-ofZ (numerator-fits (start .pre)))
 
-window-left-requires : tie.Need-window-left-requires
-window-left-requires c κs = search needs
-
-sub-slots : tie.Need-sub-slots
-sub-slots c = omega (arith, c .before .window-left .ensures, window-low (c .before .before .before .before .pre))
+left-requires : tie.Need-left-requires
+left-requires c κs = search needs
 
 cast-num : tie.Need-cast-num
 cast-num c = search needs
 
 returns-2 : tie.Need-returns-2
+unfolding distanceOf
 returns-2 c =
-    let s = c .before .before .before .before .pre in
-    let a = c .before .before .before .before .args in
-    let n : a .setting .order ≡ 0 → ⊥ = omega arith in
-    let small : windowLeft (a .q) - a .q .at .e ≤ 4294967295 = omega (arith, window-high s) in
-    simp (c .before .window-left .ensures, small-pos small) (distance-by _ _ _ false (ne-eqb _ _ n))
+    let start = c .before .before .before in
+    let n : start .args .setting .order ≡ 0 → ⊥ = omega arith in
+    let small : leftOf (start .args .q) ≤ 4294967295 = omega (arith, left-high (start .pre)) in
+    simp (ne-eqb (start .args .setting .order) 0 n, c .left .ensures, small-pos small)
 
 pub distance-spec : {M : Type 1} → statement M
 distance-spec =
@@ -53,7 +50,6 @@ distance-spec =
     owed-requires
     cast-den
     returns
-    window-left-requires
-    sub-slots
+    left-requires
     cast-num
     returns-2)

@@ -6,9 +6,10 @@ use Prim.Native.Nat.{ℕ, _*_, _≤_}
 use native.Mathlib.Nat.{mul-le-mul-right}
 use native.Mathlib.Omega.{arith}
 use lib.Dec.{ltb}
-use borrow.Author.Tests.{eq-eqb, ne-eqb, ltb-true, ltb-false, lt-ltb, le-ltb}
+use borrow.Author.Needs.{needs}
+use borrow.Author.Tests.{ltb-true, ltb-false, lt-ltb, le-ltb}
+use Rattle.place.specs.Place.{eligibleOf}
 use Rattle.place.proofs.BoundLaws.{mc-high, pc-high}
-use Rattle.place.proofs.CaseLaws.{eligible-by}
 use Rattle.place.proofs.inner.service.eligible.Statement.{statement}
 use Rattle.place.proofs.inner.service.eligible.Tie as tie
 
@@ -28,26 +29,28 @@ least-below u a b h = go (ltb u b) refl
     go true e = refl
     go false e = le-ltb u a (let k = ltb-false u b e in omega arith)
 
+by-units-requires : tie.Need-by-units-requires
+by-units-requires c κs = search needs
+
 mul-result : tie.Need-mul-result
 mul-result c =
     let sound = c .before .before .before .before .before .before .pre in
     ⊎-elim (λ w. rw (w .1) (omega (arith, pc-high sound))) (λ w. rw (w .1) (omega (arith, mc-high sound))) (c .before .before .if2 .came)
 
 returns : tie.Need-returns
+unfolding eligibleOf
 returns c =
     let start = c .before .before .before .before .before .before .before in
     let q = start .args .q in
-    let e : start .args .setting .model ≡ 0 = omega arith in
-    ⊎-elim
+    rw (sym (c .before .before .before .before .before .before .by-units .ensures) ∙ c .before .before .before .before .before .if1 .taken)
+    (⊎-elim
     (λ w. rw (w .1) (least-below (q .at .u) (q .at .p * q .job .c) (q .job .m * q .job .c) (mul-le-mul-right (q .job .c) (omega (arith, w .0 .taken)))))
     (λ w. rw (w .1) (below-least (q .at .u) (q .job .m * q .job .c) (q .at .p * q .job .c) (mul-le-mul-right (q .job .c) (w .0 .left))))
-    (c .before .before .before .if2 .came)
-    ∙ eligible-by _ _ true (eq-eqb _ _ e)
+    (c .before .before .before .if2 .came))
 
 returns-2 : tie.Need-returns-2
-returns-2 c =
-    let e : c .before .before .before .before .args .setting .model ≡ 0 → ⊥ = omega arith in
-    eligible-by _ _ false (ne-eqb _ _ e)
+unfolding eligibleOf
+returns-2 c = simp (sym (c .before .before .before .by-units .ensures) ∙ c .before .before .if1 .left)
 
 pub eligible-spec : {M : Type 1} → statement M
-eligible-spec = tie.close (tie.spec mul-result returns returns-2)
+eligible-spec = tie.close (tie.spec by-units-requires mul-result returns returns-2)

@@ -1,18 +1,19 @@
--- `choose` meets its contract. The invariant: the best so far is the nearest of the places before `at`. Assumes nothing.
+-- `choose` meets its contract. The invariant: the best so far is the one to choose among the places before `at`. Assumes nothing.
 use mathlib.Core.Path.{_≡_, ap, _∙_}
 use Prim.Native.Nat.{ℕ, _-_, _≤_}
 use native.Mathlib.Omega.{arith}
 use borrow.Author.Needs.{needs}
 use Rattle.place.specs.declared.inner.choice.Held.{Held}
-use Rattle.place.specs.Choice.{Small}
+use Rattle.place.specs.Choice.{SmallHeld}
 use Rattle.run.specs.Choice.{heldUpto, chosenOf}
 use Rattle.place.proofs.BoundLaws.{better-small, nobody-small}
+use Rattle.run.proofs.HereLaws.{job-sound}
 use Rattle.run.proofs.ChoiceLaws.{one-more-held}
 use Rattle.run.proofs.inner.choice.choose.Statement.{statement}
 use Rattle.run.proofs.inner.choice.choose.Tie as tie
 
 abbrev Inv-loop : tie.InvT-loop
-Inv-loop state setting best₀ at₀ best at = (at ≤ state .count) × (best ≡ heldUpto setting (state .places) at) × Small best
+Inv-loop state setting best₀ at₀ best at = (at ≤ state .count) × (best ≡ heldUpto setting (state .places) at) × SmallHeld best
 
 abbrev μ-loop : tie.MeasureT-loop
 μ-loop state setting best₀ at₀ best at = state .count - at
@@ -32,7 +33,7 @@ element-copy-out-better c = search needs
 
 better-requires : tie.Need-better-requires Inv-loop μ-loop
 better-requires c κs =
-    (c .before .before .before .before .before .pre .places _ (c .before .loop-test .taken), c .before .before .loop .inv .2)
+    (job-sound (c .before .before .before .before .before .pre) _ (c .before .loop-test .taken), c .before .before .loop .inv .2)
 
 add-at : tie.Need-add-at Inv-loop μ-loop
 add-at c = search needs
@@ -44,10 +45,10 @@ loop-again : tie.Need-loop-again Inv-loop μ-loop
 loop-again c =
     let start = c .before .before .before .before .before .before in
     let inv = c .before .before .before .loop .inv in
-    let sound = start .pre .places _ (c .before .before .loop-test .taken) in (
+    let sound = job-sound (start .pre) _ (c .before .before .loop-test .taken) in (
       omega arith,
       one-more-held (start .args .t1 .setting) (start .args .t1 .places) (c .before .before .before .loop .at) (inv .1) (c .better .ensures),
-      rw (c .better .ensures) (better-small sound (inv .2) _),
+      rw (c .better .ensures) (better-small _ sound (inv .2) _),
     )
 
 returns : tie.Need-returns Inv-loop μ-loop

@@ -4,7 +4,8 @@ use Prim.Native.Nat.{_-_, _<_}
 use native.Mathlib.Omega.{arith}
 use borrow.Author.Needs.{needs}
 use borrow.Author.Tests.{eqb-true}
-use Rattle.run.proofs.ChoiceLaws.{chosen-eligible}
+use Rattle.run.proofs.HereLaws.{job-sound}
+use Rattle.run.proofs.ChoiceLaws.{chosen-candidate}
 use Rattle.run.proofs.MovingLaws.{Moving, moving-starts, moving-bounded, moving-reads, moving-more, moving-done}
 use Rattle.run.proofs.inner.slot.all_moved.Statement.{statement}
 use Rattle.run.proofs.inner.slot.all_moved.Tie as tie
@@ -29,7 +30,7 @@ moved-requires c κs =
     let start = c .before .before .before .before .before in
     let reads = moving-reads (c .before .before .before .loop .inv) in
     let listed : c .before .before .before .loop .i < start .args .state .count = omega arith in
-    (rw reads (start .pre .0 .places _ listed), λ same. rw reads (chosen-eligible (start .args .state) _ (omega arith) (eqb-true _ _ same ∙ start .pre .1)))
+    (rw reads (job-sound (start .pre .0) _ listed), λ same. rw reads (chosen-candidate (start .args .state) _ (omega arith) (eqb-true _ _ same ∙ start .pre .1)))
 
 mul-place : tie.Need-mul-place Inv-loop μ-loop
 mul-place c = search needs

@@ -3,6 +3,7 @@ use mathlib.Core.Path.{_≡_}
 use Prim.Native.Nat.{_-_, _≤_}
 use native.Mathlib.Omega.{arith}
 use borrow.Author.Needs.{needs}
+use Rattle.job.specs.Limit.{countMost}
 use Rattle.job.proofs.WalkLaws.{below-first, below-second, at-the-end}
 use Rattle.run.proofs.FreshLaws.{openedUpto, none-opened, one-more-opened}
 use Rattle.run.proofs.state.State.fresh.Statement.{statement}
@@ -10,10 +11,10 @@ use Rattle.run.proofs.state.State.fresh.Tie as tie
 
 abbrev Inv-loop : tie.InvT-loop
 Inv-loop list state₀ count at₀ state at =
-    (at ≤ list .count) × (at ≤ 16) × (state ≡ openedUpto list (state₀ .setting) at)
+    (at ≤ list .count) × (at ≤ countMost) × (state ≡ openedUpto list (state₀ .setting) at)
 
 abbrev μ-loop : tie.MeasureT-loop
-μ-loop list state₀ count at₀ state at = 16 - at
+μ-loop list state₀ count at₀ state at = countMost - at
 
 zeros-requires : tie.Need-zeros-requires Inv-loop μ-loop
 zeros-requires c κs = search needs
@@ -55,7 +56,7 @@ returns : tie.Need-returns Inv-loop μ-loop
 returns c =
     let count = c .before .before .before .args .t1 .count in
     let loop = c .before .loop in
-    rw (at-the-end (loop .at) count 16 (c .loop-test .left) (loop .inv .0) (loop .inv .1)) at (loop .inv .2)
+    rw (at-the-end (loop .at) count countMost (c .loop-test .left) (loop .inv .0) (loop .inv .1)) at (loop .inv .2)
 
 pub fresh-spec : {M : Type 1} → statement M
 fresh-spec =

@@ -2,7 +2,9 @@
 use mathlib.Core.Path.{_≡_, sym}
 use lib.ListN.{length, length-map}
 use borrow.Author.Needs.{needs}
-use Rattle.run.proofs.RangeLaws.{by-parts}
+use Rattle.job.specs.Limit.{countMost}
+use Rattle.run.specs.Range.{valuesInRange}
+use Rattle.run.proofs.RangeLaws.{by-values}
 use Rattle.run.proofs.state.State.in_range.Statement.{statement}
 use Rattle.run.proofs.state.State.in_range.Tie as tie
 
@@ -16,9 +18,10 @@ totals-in-range-requires : tie.Need-totals-in-range-requires
 totals-in-range-requires c κs = search needs
 
 returns : tie.Need-returns
+unfolding valuesInRange
 returns c =
-    let long : length (c .before .before .before .before .before .before .args .self .places) ≡ 16 = simp length-map at (c .before .before .before .before .before .before .good .0 .1 .1 .1 .1 .1 .0 .1 .0 .1) in
-    rw (c .before .before .before .before .before .allowed .ensures, c .before .places-in-range .ensures, c .totals-in-range .ensures) (sym (by-parts (c .before .before .before .before .before .before .args .self) long))
+    let long : length (c .before .before .before .before .before .before .args .self .places) ≡ countMost = simp length-map at (c .before .before .before .before .before .before .good .0 .1 .1 .1 .1 .1 .0 .1 .0 .1) in
+    rw (c .before .before .before .before .before .allowed .ensures, c .before .places-in-range .ensures, c .totals-in-range .ensures) (sym (by-values (c .before .before .before .before .before .before .args .self) long))
 
 pub in-range-spec : {M : Type 1} → statement M
 in-range-spec =

@@ -1,8 +1,8 @@
 -- `progress_in_range` meets its contract: its tests are those of the definition. Assumes nothing.
 use borrow.Author.Needs.{needs}
-use Rattle.run.specs.Range.{progressInRange}
-use Rattle.run.proofs.range.progress_in_range.Statement.{statement}
-use Rattle.run.proofs.range.progress_in_range.Tie as tie
+use Rattle.place.specs.Range.{progressInRange}
+use Rattle.place.proofs.inner.range.progress_in_range.Statement.{statement}
+use Rattle.place.proofs.inner.range.progress_in_range.Tie as tie
 
 service-in-range-requires : tie.Need-service-in-range-requires
 service-in-range-requires c κs = search needs

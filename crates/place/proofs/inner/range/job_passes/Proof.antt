@@ -7,9 +7,9 @@ use Rattle.job.specs.declared.refusal.Checked.{Checked}
 use Rattle.job.specs.Told.{Told, toldChecked}
 use Rattle.job.specs.Check.{jobTold}
 use Rattle.job.proofs.ToldLaws.{told-refuses}
-use Rattle.run.specs.Range.{jobPasses}
-use Rattle.run.proofs.range.job_passes.Statement.{statement}
-use Rattle.run.proofs.range.job_passes.Tie as tie
+use Rattle.place.specs.Range.{jobPasses}
+use Rattle.place.proofs.inner.range.job_passes.Statement.{statement}
+use Rattle.place.proofs.inner.range.job_passes.Tie as tie
 
 by : (j : Job) {r v : Checked} → toldChecked r ≡ jobTold 0 j → r ≡ v → eqb (toldChecked v .number) 0 ≡ jobPasses j
 unfolding jobPasses

@@ -1,8 +1,8 @@
 -- `place_in_range` meets its contract, for a listed place and for one past the last job. Assumes nothing.
 use borrow.Author.Needs.{needs}
-use Rattle.run.specs.Range.{placeInRange}
-use Rattle.run.proofs.range.place_in_range.Statement.{statement}
-use Rattle.run.proofs.range.place_in_range.Tie as tie
+use Rattle.place.specs.Range.{placeInRange}
+use Rattle.place.proofs.inner.range.place_in_range.Statement.{statement}
+use Rattle.place.proofs.inner.range.place_in_range.Tie as tie
 
 job-passes-requires : tie.Need-job-passes-requires
 job-passes-requires c κs = search needs

@@ -1,5 +1,6 @@
 /* Nanoseconds a slot of the writer through the C entry, beside plain C, on the same lists; the outputs are
-   compared byte for byte.
+   compared byte for byte. Cells 0 to 143 are run with spare off; cells 144 to 287 are the same with spare on, which
+   the C entry does not offer, so that ours is then `filbertoss_pace` of crate `pace`.
 
      bench                  the whole table, as text, and as bench/speed.csv's lines on request (--csv FILE)
      bench --compare        one short round: only the outputs are compared
@@ -14,7 +15,11 @@
 #include <string.h>
 #include <time.h>
 
-enum { SLOTS = 20000, ROUNDS = 8, TURNS = 5, CELLS = 144 };
+enum { SLOTS = 20000, ROUNDS = 8, TURNS = 5, LISTS = 144, CELLS = 2 * LISTS };
+
+/* Crate `pace`: as filbertoss_fill, with spare on exactly if the number is not 0. */
+uint32_t filbertoss_pace(const uint8_t *jobs, size_t jobs_len, uint32_t order, uint32_t model, uint32_t spare,
+                         uint8_t *buf, size_t buf_len, size_t offset, size_t n);
 
 static const size_t counts[] = {1, 4, 8, 16};
 static const uint32_t period_low[] = {1, 10, 200};
@@ -26,6 +31,7 @@ static const char *const period_names[] = {"1-8", "10-100", "200-4096"};
 struct cell {
     size_t count;
     uint32_t order, model;
+    bool spare;
     int load, period;
     struct plain_job jobs[16];
     uint8_t bytes[96];
@@ -68,6 +74,8 @@ static struct cell make_cell(int index)
 {
     struct cell c;
     memset(&c, 0, sizeof c);
+    c.spare = index >= LISTS;
+    index %= LISTS;
     c.period = index % 3;
     c.load = index / 3 % 3;
     c.model = (uint32_t)(index / 9 % 2);
@@ -93,7 +101,9 @@ static uint8_t by_entry[SLOTS], by_plain[SLOTS];
 
 static void run_entry(const struct cell *c, size_t n)
 {
-    uint32_t answer = filbertoss_fill(c->bytes, 6 * c->count, c->order, c->model, by_entry, sizeof by_entry, 0, n);
+    size_t len = 6 * c->count, room = sizeof by_entry;
+    uint32_t answer = c->spare ? filbertoss_pace(c->bytes, len, c->order, c->model, 1, by_entry, room, 0, n)
+                               : filbertoss_fill(c->bytes, len, c->order, c->model, by_entry, room, 0, n);
     if (answer != 0) {
         fprintf(stderr, "bench: the entry refused a sound list by %u\n", answer);
         exit(1);
@@ -102,7 +112,7 @@ static void run_entry(const struct cell *c, size_t n)
 
 static void run_plain(const struct cell *c, size_t n)
 {
-    plain_fill(c->jobs, c->count, c->order, c->model, by_plain, n);
+    plain_fill(c->jobs, c->count, c->order, c->model, c->spare, by_plain, n);
 }
 
 static void compare(const struct cell *c, int index, size_t n)
@@ -141,29 +151,38 @@ static void measure(double ours[CELLS], double plain[CELLS])
         }
 }
 
+static void sum_up(const char *which, const double ratio[LISTS])
+{
+    double sum = 0, least = 1e18;
+    for (int i = 0; i < LISTS; i++) {
+        sum += ratio[i];
+        if (ratio[i] < least)
+            least = ratio[i];
+    }
+    printf("%smean ratio %.2f, least %.2f, %d cells of %d slots, best of %d\n", which, sum / LISTS, least, LISTS, SLOTS,
+           ROUNDS * TURNS);
+}
+
 static void table(FILE *csv)
 {
-    static double ours[CELLS], plain[CELLS];
-    double sum = 0, least = 1e18;
+    static double ours[CELLS], plain[CELLS], ratio[CELLS];
     measure(ours, plain);
-    printf("jobs order model    load  periods    ns a slot   plain C  C's time / ours\n");
+    printf("jobs order model    spare  load  periods    ns a slot   plain C  C's time / ours\n");
     if (csv)
-        fprintf(csv, "jobs,order,model,load,periods,share,ns_entry,ns_plain,ratio\n");
+        fprintf(csv, "jobs,order,model,spare,load,periods,share,ns_entry,ns_plain,ratio\n");
     for (int i = 0; i < CELLS; i++) {
         struct cell c = make_cell(i);
-        double ratio = plain[i] / ours[i];
+        ratio[i] = plain[i] / ours[i];
         const char *order = c.order == 0 ? "V" : "W", *model = c.model == 0 ? "relaxed" : "original";
-        printf("%4zu %5s %-8s %5s  %-9s %10.1f %9.1f %9.2f\n", c.count, order, model, load_names[c.load],
-               period_names[c.period], ours[i], plain[i], ratio);
+        const char *spare = c.spare ? "on" : "off";
+        printf("%4zu %5s %-8s %5s %5s  %-9s %10.1f %9.1f %9.2f\n", c.count, order, model, spare, load_names[c.load],
+               period_names[c.period], ours[i], plain[i], ratio[i]);
         if (csv)
-            fprintf(csv, "%zu,%s,%s,%s,%s,%.3f,%.2f,%.2f,%.3f\n", c.count, order, model, load_names[c.load],
-                    period_names[c.period], c.share, ours[i], plain[i], ratio);
-        sum += ratio;
-        if (ratio < least)
-            least = ratio;
+            fprintf(csv, "%zu,%s,%s,%s,%s,%s,%.3f,%.2f,%.2f,%.3f\n", c.count, order, model, spare, load_names[c.load],
+                    period_names[c.period], c.share, ours[i], plain[i], ratio[i]);
     }
-    printf("mean ratio %.2f, least %.2f, %d cells of %d slots, best of %d\n", sum / CELLS, least, CELLS, SLOTS,
-           ROUNDS * TURNS);
+    sum_up("", ratio);
+    sum_up("spare on: ", ratio + LISTS);
 }
 
 /* By `worst 43`: 76 divisions. Admitted, so that no row ends it early. */
@@ -201,7 +220,7 @@ int main(int argc, char **argv)
             struct cell c = make_cell(i);
             compare(&c, i, 4000);
         }
-        printf("bench: %d lists, 4000 slots each, equal to plain C\n", CELLS);
+        printf("bench: %d lists, 4000 slots each, spare off and on, equal to plain C\n", LISTS);
         return 0;
     }
     if (argc == 4 && strcmp(argv[1], "--only") == 0) {

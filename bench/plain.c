@@ -1,7 +1,6 @@
 /* The rules of one slot as a C programmer would write them down. */
 #include "plain.h"
 
-#include <stdbool.h>
 #include <string.h>
 
 struct place {
@@ -12,6 +11,7 @@ struct place {
 
 struct state {
     uint32_t order, model;
+    bool spare;
     uint32_t clock;
     size_t count;
     struct place places[16];
@@ -19,10 +19,11 @@ struct state {
     uint64_t tags, shorts;
 };
 
-static uint32_t owed(const struct state *st, const struct place *q)
+/* m', or less than 0 where spare slots finished more than m: whoever asks, asks whether it is above 0. */
+static int64_t owed(const struct state *st, const struct place *q)
 {
     uint32_t done = st->model == 0 ? q->u / q->job.c : q->s;
-    return q->job.m - done;
+    return (int64_t)q->job.m - done;
 }
 
 static bool eligible(const struct state *st, const struct place *q)
@@ -30,6 +31,16 @@ static bool eligible(const struct state *st, const struct place *q)
     if (st->model == 0)
         return q->u < q->job.m * q->job.c && q->u < q->p * q->job.c;
     return q->s < q->job.m && q->v < q->job.c;
+}
+
+/* Has its m and still has an unserved instance come due. */
+static bool waiting(const struct state *st, const struct place *q)
+{
+    if (owed(st, q) > 0)
+        return false;
+    if (st->model == 0)
+        return q->u < q->p * q->job.c;
+    return q->s < q->p && q->v < q->job.c;
 }
 
 static int64_t window_left(const struct place *q)
@@ -57,6 +68,23 @@ static size_t choose(const struct state *st)
             best = i;
             best_num = num;
             best_den = den;
+        }
+    }
+    return best;
+}
+
+static size_t choose_spare(const struct state *st)
+{
+    size_t best = 16;
+    int64_t best_end = 0;
+    for (size_t i = 0; i < st->count; i++) {
+        const struct place *q = &st->places[i];
+        if (!waiting(st, q))
+            continue;
+        int64_t end = window_left(q) - q->e;
+        if (best == 16 || end < best_end) {
+            best = i;
+            best_end = end;
         }
     }
     return best;
@@ -98,6 +126,8 @@ static void move_on(struct state *st, struct place *q, bool chosen)
 static uint8_t slot(struct state *st)
 {
     size_t chosen = choose(st);
+    if (chosen == 16 && st->spare)
+        chosen = choose_spare(st);
     for (size_t i = 0; i < st->count; i++)
         move_on(st, &st->places[i], i == chosen);
     st->clock++;
@@ -109,12 +139,14 @@ static uint8_t slot(struct state *st)
     return (uint8_t)chosen;
 }
 
-uint64_t plain_fill(const struct plain_job *jobs, size_t count, uint32_t order, uint32_t model, uint8_t *buf, size_t n)
+uint64_t plain_fill(const struct plain_job *jobs, size_t count, uint32_t order, uint32_t model, bool spare, uint8_t *buf,
+                    size_t n)
 {
     struct state st;
     memset(&st, 0, sizeof st);
     st.order = order;
     st.model = model;
+    st.spare = spare;
     st.count = count;
     for (size_t i = 0; i < count; i++) {
         st.places[i].job = jobs[i];

@@ -67,7 +67,8 @@ uint32_t filbertoss_admit(const uint8_t *jobs, size_t jobs_len, uint32_t model);
 
 /* Starts a fresh run of the list at slot 0 and writes its first n choices to buf[offset] up to
  * buf[offset + n - 1], one byte each: the number of the job that gets the slot, or
- * FILBERTOSS_IDLE. No other byte is written. The list need not be admitted.
+ * FILBERTOSS_IDLE. No other byte is written. The list need not be admitted. A slot that no job needs
+ * stays idle: spare slots are not given away here.
  *
  * Returns 0, or the number of the refusal; then no byte is written at all. The tests are made in
  * this order, and the first that fails is returned:

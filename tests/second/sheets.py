@@ -52,6 +52,15 @@ def light_jobs(rng):
     return jobs
 
 
+def roomy_jobs(rng):
+    """Few instances needed of those that come due: spare slots find a job that waits."""
+    jobs = []
+    for _ in range(rng.randint(1, 5)):
+        T, k = rng.randint(1, 8), rng.randint(2, 6)
+        jobs.append(Job(rng.randint(1, min(T, 3)), T, rng.choice((1, 1, 2)), k))
+    return jobs
+
+
 @cache
 def windows(cycle):
     """All (k, T) within the limits whose window divides the cycle."""
@@ -189,6 +198,7 @@ def any_jobs(rng):
         rng,
         (30, small_jobs),
         (16, light_jobs),
+        (20, roomy_jobs),
         (14, full_jobs),
         (6, limit_jobs),
         (6, wide_jobs),
@@ -236,18 +246,24 @@ def line(*words):
     return " ".join(map(str, words)).encode("ascii") + b"\n"
 
 
-def written(order, model, slots, jobs):
+def first_line(order, model, slots, spare):
+    """ "an optional S after the slot count" """
+    return line(order, model, slots, *("S" if spare else ""))
+
+
+def written(order, model, slots, spare, jobs):
     """The sheet with these letters, slot count and jobs."""
-    return line(order, model, slots) + b"".join(line(*job) for job in jobs)
+    return first_line(order, model, slots, spare) + b"".join(line(*job) for job in jobs)
 
 
 def formed(rng):
     """A sheet of the stated form; its numbers may be refused."""
     jobs = any_jobs(rng)
-    return written(rng.choice("VW"), rng.choice("RO"), slot_count(rng, jobs), jobs)
+    order, model, slots = rng.choice("VW"), rng.choice("RO"), slot_count(rng, jobs)
+    return written(order, model, slots, rng.random() < 0.5, jobs)
 
 
-TELLING = b"VWRO  0123456789\n\n\r\t\x00\x0b\x0c-+.,#vwro_\x80\xff"
+TELLING = b"VWROS  0123456789\n\n\r\t\x00\x0b\x0c-+.,#vwros_\x80\xff"
 
 
 def odd_byte(rng):
@@ -311,6 +327,13 @@ def many_digits(rng, sheet):
     return sheet[:at] + digits.encode("ascii") + sheet[at + 1 :]
 
 
+def spoil_spare(rng, sheet):
+    """Another text where the S may stand; the sheet may end with it."""
+    first, feed, jobs = sheet.partition(b"\n")
+    end = rng.choice((b"", b" ", b" S", b"S", b" s", b" T", b"  S", b" S ", b" SS", b" S S", b" 0"))
+    return first.removesuffix(b" S") + end + rng.choice((b"", feed + jobs, feed + jobs))
+
+
 def no_last_feed(rng, sheet):
     return sheet[:-1]
 
@@ -352,6 +375,7 @@ DAMAGES = (
     space_for_feed,
     leading_zero,
     many_digits,
+    spoil_spare,
     no_last_feed,
     carriage_returns,
     empty_line,
@@ -370,7 +394,8 @@ def damaged(rng):
 
 def bare(rng):
     """Next to nothing: no byte, a first line alone, a few bytes of any kind."""
-    first = line(rng.choice("VWX"), rng.choice("ROX"), slot_count(rng, []))
+    order, model, slots = rng.choice("VWX"), rng.choice("ROX"), slot_count(rng, [])
+    first = first_line(order, model, slots, rng.random() < 0.5)
     odd = b"".join(odd_byte(rng) for _ in range(rng.randint(0, 12)))
     return rng.choice((b"", b"\n", first, first, first[:-1], first + odd, odd))
 
@@ -387,7 +412,8 @@ def long(rng):
         (1, rng.randint(2, 5000)),
         (0.3, 100_000),
     )
-    sheet = line(rng.choice("VW"), rng.choice("RO"), rng.choice((0, 7, 40, 4096, 4097)))
+    slots = rng.choice((0, 7, 40, 4096, 4097))
+    sheet = first_line(rng.choice("VW"), rng.choice("RO"), slots, rng.random() < 0.5)
     while size - len(sheet) >= 40:
         sheet += line(*job_within(rng, rng.choice((9, 4096)), rng.choice((9, 255))))
     # Such a line has at most 18 bytes, so 22 to 39 are left: one or two lines fill them.

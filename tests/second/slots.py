@@ -1,10 +1,10 @@
-"""The program `slots`, a second time: written from the scope paper alone, to be
-compared byte for byte with the proved program.
+"""The program `slots`, a second time: written from the scope paper and Item 1 of the
+change requests alone, to be compared byte for byte with the proved program.
 
 It differs from the obvious way in method: no counters are kept.  Every count is
 read back from the list of choices since slot 0, slots and deadlines are absolute,
 and virtual deadlines and loads are exact fractions.  The words in quotation marks
-are the paper's.
+are the papers'.
 """
 
 import re
@@ -80,6 +80,7 @@ class View(NamedTuple):
     window: int  # where the window now open began
     window_end: int  # the first slot after it
     eligible: bool
+    waiting: bool  # "has its m and still has an unserved instance come due"
     deadline: Fraction | None  # None: "a job with m' = 0 has no virtual deadline"
 
 
@@ -121,34 +122,40 @@ class History:
             # "eligible exactly if u < m times C and u < p times C"
             u = self.choices.count(number, window)
             eligible = u < m * C and u < p * C
+            due = u < p * C  # "Relaxed: u < pC"
         else:
             # "Eligible exactly if s < m and v < C."
             v = self.choices.count(number, period)
             eligible = done < m and v < C
+            due = done < p and v < C  # "original: s < p and v < C"
         # "k' = k-p+1, and m' = m minus the instances finished in this window";
         # "virtual deadline, period start + k'T/m'"
         k1, m1 = k - p + 1, m - done
         deadline = period + Fraction(k1 * T, m1) if m1 > 0 else None
-        return View(window, window + k * T, eligible, deadline)
+        return View(window, window + k * T, eligible, done >= m and due, deadline)
 
 
-def choose(views, order):
+def choose(views, order, spare):
     """The job given the slot, or None if it is idle."""
     # "lowest virtual deadline" (V), "soonest window end" (W), "Equal: the lower job
     # number.  None eligible: the slot is idle."
     key = "deadline" if order == ORDER_V else "window_end"
-    ranks = ((getattr(it, key), number) for number, it in enumerate(views) if it.eligible)
+    ranks = [(getattr(it, key), number) for number, it in enumerate(views) if it.eligible]
+    # "On, a slot with no eligible job [...] goes to a job that has its m and still has an
+    # unserved instance come due; soonest window end first, then lower number."
+    if spare and not ranks:
+        ranks = [(it.window_end, number) for number, it in enumerate(views) if it.waiting]
     return min(ranks, default=(None, None))[1]
 
 
-def run(jobs, order, model, slots):
+def run(jobs, order, model, slots, spare=False):
     """For each slot from 0: (choice or None, jobs first tagged, jobs ended short)."""
     history = History(jobs, model)
     tagged = set()  # (job, window) pairs, so a new window has no tag
     answers = []
     for now in range(slots):
         views = [history.view(number) for number in range(len(jobs))]
-        choice = choose(views, order)
+        choice = choose(views, order, spare)
         # "Give the slot: one more unit to the job chosen."
         history.choices.append(IDLE if choice is None else choice)
         tags, shorts = [], []
@@ -173,12 +180,12 @@ def run(jobs, order, model, slots):
 
 # "First line: V or W, R (relaxed) or O (original), slot count; then a line per job,
 # C T m k.  Single spaces, each line ended by a line feed"; "Numbers are 0 or up to 5
-# digits with no leading zero."
+# digits with no leading zero."  "Sheets gain an optional S after the slot count".
 NUMBER = rb"(0|[1-9][0-9]{0,4})"
-FIRST_LINE = re.compile(rb"([VW]) ([RO]) " + NUMBER + rb"\n")
+FIRST_LINE = re.compile(rb"([VW]) ([RO]) " + NUMBER + rb"( S)?\n")
 JOB_LINE = re.compile(rb" ".join([NUMBER] * 4) + rb"\n")
 # What is left of a line that has begun well can always be the end of one of these.
-ENDINGS = {FIRST_LINE: b"V R 0\n", JOB_LINE: b"0 0 0 0\n"}
+ENDINGS = {FIRST_LINE: b"V R 0 S\n", JOB_LINE: b"0 0 0 0\n"}
 
 
 def begins(part, form):
@@ -219,7 +226,7 @@ def lines(sheet):
     place, matches = read(sheet)
     if place is not None:
         return [f"refused 13 at {place}"]
-    order, model, slots = matches[0].groups()
+    order, model, slots, spare = matches[0].groups()
     order, model, slots = b"VW".index(order), b"RO".index(model), int(slots)
     jobs = [Job(*map(int, match.groups())) for match in matches[1:]]
     if not 1 <= slots <= MOST_SLOTS:
@@ -233,7 +240,7 @@ def lines(sheet):
     out = [f"cycle {cycle} load {load} {VERDICTS[row]}"]
     # "slot number, job or -, then t and number for each first tag, s and number for
     # each short window, each after a space, ascending"
-    answers = run(jobs, order, model, slots)
+    answers = run(jobs, order, model, slots, spare is not None)
     for slot, (choice, tags, shorts) in enumerate(answers):
         words = [str(slot), "-" if choice is None else str(choice)]
         words += [f"t{number}" for number in tags] + [f"s{number}" for number in shorts]

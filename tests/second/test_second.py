@@ -1,4 +1,4 @@
-"""Tests of the second program: the paper's runs, edges, and sheets worked by hand.
+"""Tests of the second program: the papers' runs, edges, and sheets worked by hand.
 
 Plain Python: `python3 test_second.py` prints a count and fails with status 1.
 """
@@ -26,8 +26,8 @@ def jobs(text):
     return [tuple(map(int, job.split())) for job in text.split(",")]
 
 
-def choices(text, order, model, slots):
-    answers = run(jobs(text), order, model, slots)
+def choices(text, order, model, slots, spare=False):
+    answers = run(jobs(text), order, model, slots, spare)
     return " ".join("-" if choice is None else str(choice) for choice, _, _ in answers)
 
 
@@ -50,6 +50,16 @@ equal("F", run(jobs(F), W, R, 2), [(0, [], []), (0, [1], [1])])
 equal("G", run(jobs(G), W, R, 2), [(0, [], []), (1, [], [1])])
 equal("H", admission(jobs("1 2 1 1, 1 3 1 1, 1 6 1 1"), R), (0, None, 6, 6))
 equal("I", admission(jobs("1 2 1 1, 1 2 1 1, 1 100 1 255"), R), (9, None, 25_500, 25_501))
+
+# "in case A with spare on, slot 2 goes to job 0": it has its m, u = 1 < pC = 2.  In slot
+# 5 neither is behind its periods.
+equal("A, spare", choices(A, W, R, 6, True), "0 1 0 1 0 -")
+equal("B, spare", choices(A, V, R, 6, True), "1 0 0 1 0 -")
+# C: in slots 6 and 7 job 1 has u = 2 and 3, and 4 have come due.  D: in slots 3 and 7 it
+# has v = C, so nothing changes.  E: in slot 5 job 0 has u = 2, and 4 have come due.
+equal("C, spare", choices(C, W, R, 8, True), "0 0 1 1 0 0 1 1")
+equal("D, spare", choices(C, W, O, 8, True), "0 0 1 - 0 0 1 -")
+equal("E, spare", choices(E, W, R, 6, True), "1 0 1 0 1 0")
 
 # "Whole output of `slots` for case A"
 prints(
@@ -176,6 +186,56 @@ prints(
     "given 2 idle 4 tagged 0 short 0",
 )
 
+# --- Spare slots, worked by hand ------------------------------------------------
+
+# Case A: job 0 has two instances where it needs one.  It is neither tagged in slot 3,
+# where its window ends and job 1 is chosen, nor short: "m' stays 0 from there".
+prints(
+    "A whole, spare",
+    "W R 6 S\n1 2 1 2\n1 3 2 2\n",
+    "cycle 12 load 7 admitted",
+    *["0 0", "1 1", "2 0", "3 1", "4 0", "5 -"],
+    "given 5 idle 1 tagged 0 short 0",
+)
+# Job 0 has its m after slot 1 and job 1 after slot 6.  Original: what job 0 gets in slot 7,
+# the last of its period 2, is lost; slots 8 and 9 finish an instance of period 3, so v = C.
+prints(
+    "original: spare slots",
+    "W O 12 S\n2 4 1 3\n5 12 1 1\n",
+    "cycle 0 load 0 not judged",
+    *["0 0", "1 0", "2 1", "3 1", "4 1", "5 1", "6 1", "7 0", "8 0", "9 0", "10 -", "11 -"],
+    "given 10 idle 2 tagged 0 short 0",
+)
+# Relaxed: slot 7 counts, so slot 10 ends the third instance.
+spread = "2 4 1 3, 5 12 1 1"
+equal("relaxed: spare slots", choices(spread, W, R, 12, True), "0 0 1 1 1 1 1 0 0 0 0 -")
+# In slot 2 both have their m and one more due: windows end at 8 and 4, in either order
+# "soonest window end first".  In slot 6 both end at 8, so the lower number.
+for order in V, W:
+    pair = "1 2 1 4, 1 2 1 2"
+    equal("soonest window end", choices(pair, order, R, 8, True), "1 0 1 0 1 0 0 1")
+    equal("soonest window end, off", choices(pair, order, R, 8), "1 0 - - 1 - - -")
+# An eligible job comes first, however soon the other's window ends: job 1 in slot 1.
+equal("eligible first", choices("1 1 1 2, 1 2 1 2", W, R, 4, True), "0 1 0 0")
+# In slots 4 and 6 job 0 is chosen and job 1 is past its m, with 2 and 3 instances for 1: m'
+# is 0 and no plain difference, so it has no virtual deadline and is not tagged.
+prints(
+    "not tagged past its m",
+    "W O 8 S\n1 2 1 1\n1 2 1 4\n",
+    "cycle 0 load 0 not judged",
+    *["0 0", "1 1", "2 0", "3 1", "4 0", "5 1", "6 0", "7 1"],
+    "given 8 idle 0 tagged 0 short 0",
+)
+# Job 1 loses what slot 2 gave.  In slot 5 it has v = C and lacks one, so job 0 has the
+# slot as spare, and job 1 is tagged: deadline 3 + 3/1 = 6.
+prints(
+    "tagged in a spare slot",
+    "W O 6 S\n2 3 1 2\n2 3 2 2\n",
+    "cycle 0 load 0 not judged",
+    *["0 0", "1 0", "2 1", "3 1", "4 1", "5 0 t1 s1"],
+    "given 6 idle 0 tagged 1 short 1",
+)
+
 # --- Refused sheets, the row and the place worked out by hand -------------------
 
 JOBS = "1 2 1 2\n"  # 8 bytes; behind "V R 6\n" it stands at 6 to 13
@@ -202,11 +262,27 @@ for sheet, refusal in (
     ("V R \n", "13 at 4"),
     ("V R 06\n" + JOBS, "13 at 5"),  # after 0 no digit
     ("V R 00\n", "13 at 5"),
-    ("V R 6 \n", "13 at 5"),
+    ("V R 6 \n", "13 at 6"),  # after the space only S
     ("V R 6\r\n" + JOBS, "13 at 5"),
     ("V R 6.\n", "13 at 5"),
     ("V R 123456\n", "13 at 9"),  # the sixth digit
     ("V R 6\x00\n", "13 at 5"),
+    # "an optional S after the slot count": space 5, S 6, line feed 7.
+    ("W R 6 ", "13 at 6"),  # ends too soon
+    ("W R 6 S", "13 at 7"),
+    ("W R 6 T", "13 at 6"),
+    ("W R 6 s\n", "13 at 6"),
+    ("W R 6 0\n", "13 at 6"),
+    ("W R 6S", "13 at 5"),
+    ("W R 6  S\n", "13 at 6"),
+    ("W R 6 S \n", "13 at 7"),
+    ("W R 6 SS\n", "13 at 7"),
+    ("W R 6 S S\n", "13 at 7"),
+    ("W R S\n", "13 at 4"),
+    ("W R 12345 S", "13 at 11"),
+    ("W R 6 S\n1 2 1 2 S\n", "13 at 15"),  # in the first line alone
+    ("W R 0 S\n", "16"),
+    ("W R 6 S\n", "1"),
     # A job line: from 6.
     ("V R 6\n\n", "13 at 6"),
     ("V R 6\n\n" + JOBS, "13 at 6"),
@@ -280,13 +356,29 @@ for number in range(600):
 expected = {"admitted", "over", "cycle too long", "not judged"}
 equal("kinds", kinds, expected | {str(row) for row in (1, 2, 3, 4, 5, 6, 13, 16, 17)})
 
+# A job takes spare slots only where it is not eligible, and is not until its window ends:
+# a run with spare on is the run with spare off, save for what was idle there.
+taken = 0
+for number in range(300):
+    rng = sheets.draw("spare", number)
+    some, order, model = sheets.any_jobs(rng), rng.choice((V, W)), rng.choice((R, O))
+    if check(some)[0] == 0:
+        off, on = (run(some, order, model, 60, spare) for spare in (False, True))
+        kept = [
+            (None if before[0] is None else after[0], *after[1:]) for before, after in zip(off, on)
+        ]
+        equal(f"off within on {some}", kept, off)
+        taken += off != on
+equal("lists that took spare slots", taken > 50, True)
+
 # "the promise of no short window is for W": tried on the admitted lists of many.
 for number in range(400):
     some = sheets.any_jobs(sheets.draw("promise", number))
     row, _, cycle, _ = admission(some, RELAXED)
     if row == 0:
-        answers = run(some, ORDER_W, RELAXED, min(cycle + 1, 150))
-        equal(f"no short window {some}", [shorts for _, _, shorts in answers if shorts], [])
+        for spare in False, True:  # "Demand 3 holds with it on or off."
+            answers = run(some, ORDER_W, RELAXED, min(cycle + 1, 150), spare)
+            equal(f"no short window {some}", [shorts for _, _, shorts in answers if shorts], [])
 
 print(f"test_second: {done - failed} of {done} passed")
 sys.exit(1 if failed else 0)

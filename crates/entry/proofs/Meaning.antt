@@ -1,4 +1,4 @@
--- The statements of specs/Meaning about the numbers of the two entries: what each row says, and that it is given wherever that holds.
+-- The statements of specs/Meaning about the numbers of the two entries and of `fill`: what each row says, and that it is given wherever that holds.
 use mathlib.Core.Path.{_≡_, refl, sym, ap, subst, _∙_}
 use mathlib.Core.Bool.{Bool, true, false, _&&_, cond}
 use mathlib.Core.Logic.{_↔_, _⊎_, inl, inr, ⊎-elim}
@@ -22,7 +22,6 @@ use Rattle.admission.specs.Cycle.{cycleOf}
 use Rattle.admission.specs.Load.{loadOf}
 use Rattle.admission.specs.Verdict.{judgedTold, verdictTold}
 use Rattle.place.specs.declared.setting.Setting.{Setting}
-use Rattle.place.specs.Setting.{settingOf}
 use Rattle.place.specs.Sound.{Allowed}
 use Rattle.run.specs.declared.state.State.{State}
 use Rattle.run.specs.State.{clockMost}
@@ -34,7 +33,7 @@ use Rattle.timetable.specs.Meaning.{Room, Stays}
 use Rattle.timetable.proofs.Meaning.{choices-written}
 use Rattle.entry.specs.JobBytes.{listFrom}
 use Rattle.entry.specs.Entry.{admitTold, fillTold, fillBytes}
-use Rattle.entry.specs.Meaning.{BytesOfList, Whole, AdmitEntryAnswers, Starts, FillsRun, FillAnswers, FillRowFourteen}
+use Rattle.entry.specs.Meaning.{BytesOfList, Whole, AdmitEntryAnswers, Starts, FillsRun, FillAnswers, FillRowFourteen, EntryFills}
 use Rattle.job.proofs.Meaning.{ListView, no-jobs, many-jobs, sound-list, faulty-list, list-view, passes-exactly, row-one-exactly, row-two-exactly, job-rows-exactly}
 use Rattle.run.proofs.RangeLaws.{range-exactly}
 use Rattle.admission.proofs.LentMeaning.{same-verdict}
@@ -265,8 +264,7 @@ module _ (jobs : List ℕ) (l : JobList) (held : BytesOfList jobs l) (setting : 
       go (inr f) = list-given (listTold l .number) (f .0) (a, refl) ∙ numbered (sym check)
 
 pub fill-answers : FillAnswers
-fill-answers jobs l held order model before offset n r after promise =
-    let s = settingOf order model in
+fill-answers jobs l held s before offset n r after promise =
     let is : r ≡ fillNumber jobs s before offset n = promise .0 in
     record {
       row-fifteen = rw is (says jobs l held s before offset n 15, fifteen-given jobs l held s before offset n);
@@ -281,8 +279,7 @@ fill-answers jobs l held order model before offset n r after promise =
     }
 
 pub fill-row-fourteen : FillRowFourteen
-fill-row-fourteen jobs order model before offset n r after promise =
-    let s = settingOf order model in
+fill-row-fourteen jobs s before offset n r after promise =
     let is : r ≡ fillNumber jobs s before offset n = promise .0 in (
       (
         λ e whole. says jobs (listFrom jobs) (read-holds jobs whole) s before offset n 14 (sym is ∙ e),
@@ -290,3 +287,6 @@ fill-row-fourteen jobs order model before offset n r after promise =
       ),
       λ e. promise .1 ∙ fill-keeps jobs s before offset n (λ zero. absurd (omega (arith, is, e, zero))),
     )
+
+pub entry-fills : EntryFills
+entry-fills jobs order model before offset n r after promise = promise

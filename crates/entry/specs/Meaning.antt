@@ -1,7 +1,8 @@
--- What the two entries return and leave, whatever their promises allow. Each statement is proved in proofs/, under its name.
+-- What the two entries and `fill` return and leave, whatever their promises allow. Each statement is proved in proofs/, under its name.
 use Prim.Native.Nat.{ℕ, _+_, _*_, _%_, _≤_, _<_}
 use mathlib.Core.Path.{_≡_}
 use mathlib.Core.Logic.{_↔_}
+use mathlib.Core.Bool.{false}
 use mathlib.Core.List.{List}
 use lib.ListN.{length, getD, take, drop}
 use Rattle.job.specs.declared.record.Job.{Job}
@@ -17,14 +18,13 @@ use Rattle.admission.specs.declared.answer.Admission.{Admission}
 use Rattle.admission.specs.Answer.{toldAdmission}
 use Rattle.admission.specs.Promise.{VerdictPromise}
 use Rattle.place.specs.declared.setting.Setting.{Setting}
-use Rattle.place.specs.Setting.{settingOf}
 use Rattle.place.specs.Sound.{Allowed}
 use Rattle.run.specs.declared.state.State.{State}
 use Rattle.run.specs.declared.answer.Slot.{Slot}
 use Rattle.run.specs.State.{clockMost}
 use Rattle.run.specs.Calls.{Run, bytesOf}
 use Rattle.timetable.specs.Meaning.{Stays}
-use Rattle.entry.specs.Promise.{AdmitEntryPromise, FillEntryPromise}
+use Rattle.entry.specs.Promise.{AdmitEntryPromise, FillPromise, FillEntryPromise}
 
 -- 'C and T (16 bits, low byte first), m, k': job j stands in the six bytes from `at` on
 pub record JobStands (bytes : List ℕ) (at : ℕ) (j : Job) : Type 0 where
@@ -67,7 +67,7 @@ pub record FillsRun (l : JobList) (s : Setting) (before : List ℕ) (offset n : 
   pub choices : take n (drop offset after) ≡ bytesOf slots
   pub stays : Stays before after offset n
 
--- `filbertoss_fill` of the bytes of a list: 'Tests 14, 15, then the rows above; for the fill 12, then 11, come after 6.'
+-- a fill of the bytes of a list: 'Tests 14, 15, then the rows above; for the fill 12, then 11, come after 6.'
 pub record FillTold (l : JobList) (s : Setting) (before : List ℕ) (offset n r : ℕ) (after : List ℕ) : Type 0 where
   pub row-fifteen : (r ≡ 15) ↔ (Allowed s → ⊥)
   -- rows 1 to 6, as `JobList::check` gives them
@@ -80,15 +80,21 @@ pub record FillTold (l : JobList) (s : Setting) (before : List ℕ) (offset n r 
   -- 'A refused .. timetable writes nothing'
   pub keeps : (r ≡ 0 → ⊥) → after ≡ before
 
+-- `fill`, in any setting
 abbrev pub FillAnswers : Type 0
 FillAnswers =
-    (jobs : List ℕ) (l : JobList) → BytesOfList jobs l → (order model : ℕ) (before : List ℕ) (offset n r : ℕ) (after : List ℕ)
-    → FillEntryPromise jobs order model before offset n r after
-    → FillTold l (settingOf order model) before offset n r after
+    (jobs : List ℕ) (l : JobList) → BytesOfList jobs l → (s : Setting) (before : List ℕ) (offset n r : ℕ) (after : List ℕ)
+    → FillPromise jobs s before offset n r after → FillTold l s before offset n r after
 
 -- '14: job bytes not a multiple of 6'
 abbrev pub FillRowFourteen : Type 0
 FillRowFourteen =
+    (jobs : List ℕ) (s : Setting) (before : List ℕ) (offset n r : ℕ) (after : List ℕ) → FillPromise jobs s before offset n r after
+    → ((r ≡ 14) ↔ (Whole jobs → ⊥)) × (r ≡ 14 → after ≡ before)
+
+-- `filbertoss_fill` is `fill` in that order and model, and 'the C entry keeps spare off' (02, Item 1)
+abbrev pub EntryFills : Type 0
+EntryFills =
     (jobs : List ℕ) (order model : ℕ) (before : List ℕ) (offset n r : ℕ) (after : List ℕ)
     → FillEntryPromise jobs order model before offset n r after
-    → ((r ≡ 14) ↔ (Whole jobs → ⊥)) × (r ≡ 14 → after ≡ before)
+    → FillPromise jobs (record { order = order; model = model; spare = false }) before offset n r after

@@ -1,8 +1,9 @@
--- What each entry promises, by name: the contracts say these names, and promises/specs/Unique speaks of them.
+-- What each entry promises, and `fill`, by name: the contracts say these names, and promises/specs/Unique speaks of them.
 use mathlib.Core.Path.{_≡_}
 use mathlib.Core.List.{List}
 use Prim.Native.Nat.{ℕ}
 use lib.ListN.{length}
+use Rattle.place.specs.declared.setting.Setting.{Setting}
 use Rattle.place.specs.Setting.{settingOf}
 use Rattle.entry.specs.Entry.{admitTold, fillTold, fillBytes}
 
@@ -10,8 +11,11 @@ use Rattle.entry.specs.Entry.{admitTold, fillTold, fillBytes}
 abbrev pub AdmitEntryPromise : List ℕ → ℕ → ℕ → Type 0
 AdmitEntryPromise jobs model r = r ≡ admitTold jobs model .number
 
--- `filbertoss_fill`: the number, and the bytes of the lent buffer before and after
+-- `fill`: the number, and the bytes of the lent buffer before and after
+abbrev pub FillPromise : List ℕ → Setting → List ℕ → ℕ → ℕ → ℕ → List ℕ → Type 0
+FillPromise jobs setting before offset n r after =
+    (r ≡ fillTold jobs setting (length before) offset n .number) × (after ≡ fillBytes jobs setting before offset n)
+
+-- `filbertoss_fill`: 'the C entry keeps spare off'
 abbrev pub FillEntryPromise : List ℕ → ℕ → ℕ → List ℕ → ℕ → ℕ → ℕ → List ℕ → Type 0
-FillEntryPromise jobs order model before offset n r after =
-    (r ≡ fillTold jobs (settingOf order model) (length before) offset n .number)
-    × (after ≡ fillBytes jobs (settingOf order model) before offset n)
+FillEntryPromise jobs order model = FillPromise jobs (settingOf order model)

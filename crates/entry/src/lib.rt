@@ -1,8 +1,9 @@
-// The two entries for ground tools in C, on numbers and byte slices. include/filbertoss.h declares
-// them.
+// The two entries for ground tools in C, on numbers and byte slices, as include/filbertoss.h
+// declares them; and the fill of any setting.
 mod admit;
-mod fill;
+mod filling;
 mod jobs;
 
 pub use admit::filbertoss_admit;
-pub use fill::filbertoss_fill;
+pub use filling::filbertoss_fill;
+pub use filling::fill;

@@ -1,6 +1,7 @@
 -- A test of one number as a fact, and the fact as the test.
 use mathlib.Core.Path.{_≡_, refl, sym, _∙_}
-use mathlib.Core.Bool.{Bool, true, false, _&&_}
+use mathlib.Core.Bool.{Bool, true, false, _&&_, _||_}
+use mathlib.Core.Logic.{_⊎_, inl, inr}
 use Prim.Native.Nat.{ℕ}
 use native.Mathlib.Omega.{arith}
 use lib.Dec.{leb}
@@ -11,6 +12,10 @@ use Rattle.job.specs.Sound.{Within}
 pub clash : {b : Bool} → b ≡ false → b ≡ true → ⊥
 clash {b} e f = let z : false ≡ true = sym e ∙ f in let y : _≡_ {A = ℕ} 0 1 = cc in omega arith
 
+pub refuted : {b : Bool} → (b ≡ true → ⊥) → b ≡ false
+refuted {b = true} never = absurd (never refl)
+refuted {b = false} never = refl
+
 pub both : (a b : Bool) → (a && b) ≡ true → (a ≡ true) × (b ≡ true)
 both true b e = (refl, e)
 both false b e = absurd (clash refl e)
@@ -20,6 +25,10 @@ three a b c e =
     let last = both (a && b) c e in
     let first = both a b (last .0) in
     (first .0, first .1, last .1)
+
+pub either : (a b : Bool) → (a || b) ≡ true → (a ≡ true) ⊎ (b ≡ true)
+either true b e = inl refl
+either false b e = inr e
 
 pub four : (a b c d : Bool) → (a && b && c && d) ≡ true → (a ≡ true) × (b ≡ true) × (c ≡ true) × (d ≡ true)
 four a b c d e =

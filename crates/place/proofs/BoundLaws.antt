@@ -3,10 +3,11 @@ use mathlib.Core.Path.{_≡_, refl, sym, ap, _∙_}
 use mathlib.Core.Logic.{_↔_}
 use mathlib.Core.Bool.{Bool, true, false, _&&_, cond, and-false}
 use Prim.Native.Nat.{ℕ, _+_, _-_, _*_, _/_, _≤_, _<_}
-use native.Mathlib.Nat.{mul-le-mul, mul-le-mul-right, div-lt-iff-lt-mul, mul-comm, div-le-of-le-mul, le-refl}
+use native.Mathlib.Nat.{mul-le-mul, mul-le-mul-left, mul-le-mul-right, div-lt-iff-lt-mul, mul-comm, div-le-of-le-mul, le-refl}
+use native.Mathlib.Decide.{decLe}
 use native.Mathlib.Omega.{arith}
-use lib.Dec.{leb, ltb}
-use borrow.Author.Tests.{ltb-true, ltb-false, lt-ltb, le-ltb, leb-true, lt-leb}
+use lib.Dec.{leb, ltb, eqb}
+use borrow.Author.Tests.{ltb-true, ltb-false, lt-ltb, le-ltb, leb-true, lt-leb, eq-eqb}
 use lib.IntN.{pos, natAbs, _-ℤ_, _*ℤ_}
 use mir.Syntax.{w64}
 use mir.Val.{SFits, toZ, ofZ}
@@ -17,9 +18,11 @@ use Rattle.place.specs.declared.inner.choice.Fraction.{Fraction}
 use Rattle.place.specs.declared.inner.choice.Held.{Held}
 use Rattle.place.specs.Setting.{byUnits, inOrderV}
 use Rattle.place.specs.Sound.{SoundPlace}
-use Rattle.place.specs.Place.{windowLeft, leftOf, finishedOf, owedOf, numeratorOf, overdueOf}
-use Rattle.place.specs.Choice.{Small, SmallHeld, candidateOf, distanceOf, nearerOf, betterOf, nobody}
+use Rattle.place.specs.Place.{windowLeft, leftOf, finishedOf, owedOf, eligibleOf, numeratorOf, overdueOf}
+use Rattle.place.specs.Choice.{Small, SmallHeld, roomOf, takesSpare, candidateOf, windowMost, dueAway, spareAway, distanceOf, nearerOf, betterOf, nobody}
+use Rattle.job.proofs.TestLaws.{clash, both}
 use Rattle.place.proofs.CondLaws.{by-test}
+use Rattle.place.proofs.DistanceLaws.{plus, difference-plus, leb-shift}
 use Rattle.place.proofs.SignedLaws.{abs-sub, abs-mul, abs-fits, small-pos, difference-most}
 
 module _ {setting : Setting} {q : Place} (s : SoundPlace setting q) where
@@ -29,13 +32,14 @@ module _ {setting : Setting} {q : Place} (s : SoundPlace setting q) where
   pub pc-high : q .at .p * q .job .c ≤ 1044480
   pc-high = mul-le-mul {n₂ = 255} {m₂ = 4096} (omega arith) (omega arith)
 
-  pub finished-high : finishedOf setting q ≤ q .job .m
+  -- one instance a period, at most
+  finished-high : finishedOf setting q ≤ q .at .p
   unfolding finishedOf
   finished-high = go (byUnits setting) refl
     where
-      go : (b : Bool) → byUnits setting ≡ b → cond b (q .at .u / q .job .c) (q .at .s) ≤ q .job .m
-      go true e = div-le-of-le-mul (q .job .c) (rw mul-comm (s .service .u-m))
-      go false e = s .service .s-m
+      go : (b : Bool) → byUnits setting ≡ b → cond b (q .at .u / q .job .c) (q .at .s) ≤ q .at .p
+      go true e = div-le-of-le-mul (q .job .c) (rw mul-comm (s .service .by-units e .u-p))
+      go false e = s .service .by-instances e .s-p
 
   pub owed-high : owedOf setting q ≤ 255
   unfolding owedOf
@@ -55,6 +59,11 @@ module _ {setting : Setting} {q : Place} (s : SoundPlace setting q) where
   pub left-high : leftOf q ≤ 1044480
   unfolding leftOf
   left-high = omega (arith, window-high)
+
+  -- the window is not over
+  pub left-low : 0 < leftOf q
+  unfolding leftOf
+  left-low = omega (arith, window-low, s .e-high)
 
   pub gone-high : q .at .e * owedOf setting q ≤ 1044480
   gone-high = mul-le-mul {n₂ = 4096} {m₂ = 255} (omega arith) owed-high
@@ -94,8 +103,35 @@ module _ {setting : Setting} {q : Place} (s : SoundPlace setting q) where
       same true h = h ∙ sym (lt-ltb 0 (q .job .m - q .at .s) (let k = ltb-true (q .at .s) (q .job .m) h in omega arith))
       same false h = h ∙ sym (le-ltb 0 (q .job .m - q .at .s) (let k = ltb-false (q .at .s) (q .job .m) h in omega arith))
 
+  -- who is not eligible and has room has its m
+  room-owed : eligibleOf setting q ≡ false → roomOf setting q ≡ true → owedOf setting q ≡ 0
+  unfolding eligibleOf roomOf
+  room-owed not-due room = go (byUnits setting) refl
+    where
+      other : (a b : Bool) → (a && b) ≡ false → b ≡ true → a ≡ false
+      other true b e f = absurd (clash e f)
+      other false b e f = refl
+
+      go : (b : Bool) → byUnits setting ≡ b → owedOf setting q ≡ 0
+      go true e =
+          let none = other (ltb (q .at .u) (q .job .m * q .job .c)) (ltb (q .at .u) (q .at .p * q .job .c)) (rw e at not-due) (rw e at room) in
+          omega (arith, ltb-false 0 (owedOf setting q) (sym (lacks-is true e) ∙ none))
+      go false e =
+          let open-still = both (ltb (q .at .s) (q .at .p)) (ltb (q .at .v) (q .job .c)) (rw e at room) .1 in
+          let none = other (ltb (q .at .s) (q .job .m)) (ltb (q .at .v) (q .job .c)) (rw e at not-due) open-still in
+          omega (arith, ltb-false 0 (owedOf setting q) (sym (lacks-is false e) ∙ none))
+
+  pub spare-is : eligibleOf setting q ≡ false → setting .spare ≡ true → roomOf setting q ≡ takesSpare setting q
+  unfolding takesSpare
+  spare-is not-due on =
+      go (roomOf setting q) refl ∙ ap (λ (spare : Bool). spare && eqb (owedOf setting q) 0 && roomOf setting q) (sym on)
+    where
+      go : (b : Bool) → roomOf setting q ≡ b → b ≡ (eqb (owedOf setting q) 0 && b)
+      go true room = sym (ap (_&& true) (eq-eqb (owedOf setting q) 0 (room-owed not-due room)))
+      go false room = sym (and-false (eqb (owedOf setting q) 0))
+
   -- the tag's condition without signs, and when it is too early for it
-  pub overdue-is : leb (windowLeft q) ((q .at .e + 1) * owedOf setting q) ≡ overdueOf setting q
+  overdue-is : leb (windowLeft q) ((q .at .e + 1) * owedOf setting q) ≡ overdueOf setting q
   unfolding overdueOf numeratorOf
   overdue-is =
       let product : q .at .e * owedOf setting q + owedOf setting q ≡ (q .at .e + 1) * owedOf setting q = omega arith in
@@ -112,6 +148,39 @@ module _ {setting : Setting} {q : Place} (s : SoundPlace setting q) where
           in
           rw (e, lt-ltb 0 (owedOf setting q) (omega arith))
 
+  -- nor a difference
+  pub overdue-sum : leb (windowLeft q + (q .at .e + 1) * finishedOf setting q) ((q .at .e + 1) * q .job .m) ≡ overdueOf setting q
+  unfolding owedOf
+  overdue-sum = go (decLe (finishedOf setting q) (q .job .m)) ∙ overdue-is
+    where
+      next : ℕ
+      next = q .at .e + 1
+
+      done : ℕ
+      done = finishedOf setting q
+
+      go :
+          Dec (done ≤ q .job .m)
+          → leb (windowLeft q + next * done) (next * q .job .m) ≡ leb (windowLeft q) (next * (q .job .m - done))
+      go (yes h) =
+          let whole : q .job .m - done + done ≡ q .job .m = omega arith in
+          leb-shift (windowLeft q + next * done) (next * q .job .m) (windowLeft q) (next * (q .job .m - done)) 0 (next * done) (omega arith)
+          (omega (arith, ap (next *_) whole))
+      go (no h) =
+          let none : q .job .m - done ≡ 0 = omega arith in
+          let less : next * q .job .m ≤ next * done = mul-le-mul-left next (omega arith) in
+          lt-leb (windowLeft q + next * done) (next * q .job .m) (omega (arith, window-low))
+          ∙ sym (lt-leb (windowLeft q) (next * (q .job .m - done)) (omega (arith, window-low, ap (next *_) none)))
+
+  pub sum-high : windowLeft q + (q .at .e + 1) * finishedOf setting q ≤ 2088960
+  sum-high =
+      let next : q .at .e + 1 ≤ 4096 = omega arith in
+      let done : finishedOf setting q ≤ 255 = omega (arith, finished-high) in
+      omega (arith, window-high, mul-le-mul next done)
+
+  pub next-high : (q .at .e + 1) * q .job .m ≤ 1044480
+  next-high = mul-le-mul {n₂ = 4096} {m₂ = 255} (omega arith) (omega arith)
+
   owed-most : owedOf setting q ≤ q .job .m
   unfolding owedOf
   owed-most = omega arith
@@ -123,14 +192,25 @@ module _ {setting : Setting} {q : Place} (s : SoundPlace setting q) where
       let more : (q .job .m + 1) * q .job .t ≤ (q .job .k - q .at .p + 1) * q .job .t = mul-le-mul-right (q .job .t) (omega arith) in
       sym overdue-is ∙ lt-leb (windowLeft q) ((q .at .e + 1) * owedOf setting q) (omega arith)
 
-  pub next-high : (q .at .e + 1) * owedOf setting q ≤ 1044480
-  next-high = mul-le-mul {n₂ = 4096} {m₂ = 255} (omega arith) owed-high
-
-  pub distance-small : Small (distanceOf setting q)
-  unfolding distanceOf
-  distance-small =
+  pub due-small : Small (dueAway setting q)
+  unfolding dueAway
+  due-small =
       by-test Small (inOrderV setting) (λ e. record { num-high = numerator-abs; den-high = owed-high })
       (λ e. record { num-high = omega (arith, left-high); den-high = omega arith })
+
+  -- no deadline is more than a window away
+  pub due-high : plus (dueAway setting q .num) ≤ windowMost
+  unfolding dueAway numeratorOf
+  due-high =
+      by-test (λ (d : Fraction). plus (d .num) ≤ windowMost) (inOrderV setting)
+      (λ e. omega (arith, window-high, difference-plus (windowLeft q) (q .at .e * owedOf setting q))) (λ e. left-high)
+
+  pub spare-small : Small (spareAway q)
+  spare-small = record { num-high = omega (arith, left-high); den-high = omega arith }
+
+  distance-small : Small (distanceOf setting q)
+  unfolding distanceOf
+  distance-small = by-test Small (eligibleOf setting q) (λ e. due-small) (λ e. spare-small)
 
 -- the products that two distances are compared by
 module _ {a b : Fraction} (s : Small a) (t : Small b) where

@@ -1,15 +1,16 @@
 -- The comparison of distances is a strict weak order where the denominators are positive, and nobody is farther than any.
 use mathlib.Core.Path.{_≡_, refl, sym, _∙_}
 use mathlib.Core.Bool.{Bool, true, false, cond}
-use Prim.Native.Nat.{ℕ, zero, suc, _+_, _-_, _*_, _<_}
+use Prim.Native.Nat.{ℕ, zero, suc, _+_, _-_, _*_, _≤_, _<_}
 use native.Mathlib.Nat.{le-refl, add-zero, zero-add, zero-mul, mul-le-mul-right, mul-lt-mul-of-pos-right, lt-of-mul-lt-mul-right}
 use native.Mathlib.Omega.{arith}
-use lib.Dec.{ltb, leb·suc-suc}
+use lib.Dec.{leb, ltb, leb·suc-suc}
 use lib.IntN.{ℤ, pos, negsuc, negℤ, _-ℤ_, _*ℤ_}
 use lib.Signed.{ltZ}
-use borrow.Author.Tests.{ltb-true, ltb-false, lt-ltb, le-ltb}
+use borrow.Author.Tests.{leb-true, leb-false, ltb-true, ltb-false, le-leb, lt-leb, lt-ltb, le-ltb}
 use Rattle.place.specs.declared.inner.choice.Fraction.{Fraction}
 use Rattle.place.specs.Choice.{nearerOf, nobody}
+use Rattle.place.proofs.CondLaws.{by-test}
 
 -- an integer as the difference of two naturals
 
@@ -54,6 +55,10 @@ difference-parts a (suc b) = go (ltb a (suc b)) refl
     go true e = let h = ltb-true a (suc b) e in omega arith
     go false e = let h = ltb-false a (suc b) e in omega arith
 
+pub difference-plus : (a b : ℕ) → plus (pos a -ℤ pos b) ≤ a
+difference-plus a zero = omega arith
+difference-plus a (suc b) = by-test (λ (z : ℤ). plus z ≤ a) (ltb a (suc b)) (λ e. omega arith) (λ e. omega arith)
+
 -- two comparisons of numbers that lie equally far apart
 pub ltb-shift : (x y u v c d : ℕ) → x + c ≡ u + d → y + c ≡ v + d → ltb x y ≡ ltb u v
 ltb-shift x y u v c d e f = go (ltb u v) refl
@@ -61,6 +66,13 @@ ltb-shift x y u v c d e f = go (ltb u v) refl
     go : (b : Bool) → ltb u v ≡ b → ltb x y ≡ b
     go true g = lt-ltb x y (let h = ltb-true u v g in omega arith)
     go false g = le-ltb x y (let h = ltb-false u v g in omega arith)
+
+pub leb-shift : (x y u v c d : ℕ) → x + c ≡ u + d → y + c ≡ v + d → leb x y ≡ leb u v
+leb-shift x y u v c d e f = go (leb u v) refl
+  where
+    go : (b : Bool) → leb u v ≡ b → leb x y ≡ b
+    go true g = le-leb x y (let h = leb-true u v g in omega arith)
+    go false g = lt-leb x y (let h = leb-false u v g in omega arith)
 
 -- the two sides of a comparison, as naturals: a is nearer than b exactly if `side a b` is less than `side b a`
 

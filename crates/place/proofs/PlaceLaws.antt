@@ -1,6 +1,7 @@
 -- What one slot makes of one place, over the setting: it keeps the job, and the place sound.
 use mathlib.Core.Path.{_≡_, refl, _∙_}
-use mathlib.Core.Bool.{Bool, true, false, _&&_, _||_, cond}
+use mathlib.Core.Bool.{Bool, true, false, _&&_, _||_, cond, or-true}
+use mathlib.Core.Logic.{_⊎_, ⊎-elim}
 use Prim.Native.Nat.{ℕ, zero, suc, _+_, _-_, _*_, _/_, _≤_, _<_}
 use native.Mathlib.Nat.{div-lt-iff-lt-mul, mul-le-mul-right, le-trans}
 use native.Mathlib.Omega.{arith}
@@ -13,9 +14,9 @@ use Rattle.place.specs.declared.record.Place.{Place}
 use Rattle.place.specs.Setting.{byUnits}
 use Rattle.place.specs.Opening.{opened}
 use Rattle.place.specs.Place.{atSlot, withService, withTag, finishedOf, owedOf, eligibleOf, servedOf, tagsOf, givenOf, taggedOf, workedOf, turnedOf, movedOf}
-use Rattle.place.specs.Choice.{candidateOf}
+use Rattle.place.specs.Choice.{roomOf, takesSpare, candidateOf}
 use Rattle.place.specs.Sound.{ServiceByInstances, SoundService, SoundPlace}
-use Rattle.job.proofs.TestLaws.{clash, both}
+use Rattle.job.proofs.TestLaws.{clash, refuted, both, three, either}
 use Rattle.place.proofs.CondLaws.{by-test}
 use Rattle.place.proofs.CounterLaws.{worked}
 
@@ -39,21 +40,43 @@ module _ (setting : Setting) (q : Place) where
   unfolding eligibleOf
   eligible-instances e h = both-below (q .at .s) (q .job .m) (q .at .v) (q .job .c) (rw e at h)
 
-  -- the eligible are candidates, and the candidates eligible
+  -- the eligible are candidates; another takes a spare slot
   pub eligible-candidate : eligibleOf setting q ≡ true → candidateOf setting q ≡ true
   unfolding candidateOf
-  eligible-candidate e = e
+  eligible-candidate e = rw e
 
-  pub candidate-eligible : candidateOf setting q ≡ true → eligibleOf setting q ≡ true
+  pub spare-candidate : takesSpare setting q ≡ true → candidateOf setting q ≡ true
   unfolding candidateOf
-  candidate-eligible e = e
+  spare-candidate e = rw e (or-true (eligibleOf setting q))
+
+  pub candidate-either : candidateOf setting q ≡ true → (eligibleOf setting q ≡ true) ⊎ (takesSpare setting q ≡ true)
+  unfolding candidateOf
+  candidate-either e = either (eligibleOf setting q) (takesSpare setting q) e
+
+  -- what a spare slot asks for
+  spare-parts :
+      takesSpare setting q ≡ true → (setting .spare ≡ true) × (owedOf setting q ≡ 0) × (roomOf setting q ≡ true)
+  unfolding takesSpare
+  spare-parts e =
+      let t = three (setting .spare) (eqb (owedOf setting q) 0) (roomOf setting q) e in
+      (t .0, eqb-true (owedOf setting q) 0 (t .1), t .2)
+
+  off-eligible : setting .spare ≡ false → candidateOf setting q ≡ true → eligibleOf setting q ≡ true
+  off-eligible off candidate = ⊎-elim (λ e. e) (λ e. absurd (clash off (spare-parts e .0))) (candidate-either candidate)
 
   -- a candidate may be served: the open period has room
   pub candidate-units : byUnits setting ≡ true → candidateOf setting q ≡ true → q .at .u < q .at .p * q .job .c
-  candidate-units e h = eligible-units e (candidate-eligible h) .1
+  unfolding roomOf
+  candidate-units units candidate =
+      ⊎-elim (λ e. eligible-units units e .1)
+      (λ e. ltb-true (q .at .u) (q .at .p * q .job .c) (rw units at (spare-parts e .2))) (candidate-either candidate)
 
   pub candidate-instances : byUnits setting ≡ false → candidateOf setting q ≡ true → q .at .v < q .job .c
-  candidate-instances e h = eligible-instances e (candidate-eligible h) .1
+  unfolding roomOf
+  candidate-instances instances candidate =
+      ⊎-elim (λ e. eligible-instances instances e .1)
+      (λ e. both-below (q .at .s) (q .at .p) (q .at .v) (q .job .c) (rw instances at (spare-parts e .2)) .1)
+      (candidate-either candidate)
 
 quotient-below : (u m c : ℕ) → u < m * c → u / c < m
 quotient-below u m zero h = absurd (omega arith)
@@ -74,6 +97,9 @@ eligible-owed setting q = go (byUnits setting)
         let h = both-below (q .at .u) (q .job .m * q .job .c) (q .at .u) (q .at .p * q .job .c) e in
         omega (arith, quotient-below (q .at .u) (q .job .m) (q .job .c) (h .0))
     go false e = let h = both-below (q .at .s) (q .job .m) (q .at .v) (q .job .c) e in omega arith
+
+pub spare-not-due : (setting : Setting) (q : Place) → takesSpare setting q ≡ true → eligibleOf setting q ≡ false
+spare-not-due setting q spare = refuted (λ due. omega (arith, eligible-owed setting q due, spare-parts setting q spare .1))
 
 -- the service of a slot given, by instances
 given-instances :
@@ -109,8 +135,8 @@ opened-sound job =
       period = record { low = omega arith; high = job .k .low };
       service =
           record {
-            u-m = omega arith;
-            s-m = omega arith;
+            u-m = λ off. omega arith;
+            s-m = λ off. omega arith;
             by-units = λ is. record { u-p = omega arith; s-unused = refl; v-unused = refl };
             by-instances =
                 λ is.
@@ -138,23 +164,25 @@ module _ {setting : Setting} {q : Place} (sound : SoundPlace setting q) where
   served-sound candidate =
       by-test (SoundPlace setting) (byUnits setting)
       (λ e.
-      let room = eligible-units setting q e (candidate-eligible setting q candidate) in
       let r = sound .service .by-units e in
       with-service
       (record {
-        u-m = omega (arith, room .0);
+        u-m = λ off. omega (arith, eligible-units setting q e (off-eligible setting q off candidate) .0);
         s-m = sound .service .s-m;
-        by-units = λ is. record { u-p = omega (arith, room .1); s-unused = r .s-unused; v-unused = r .v-unused };
+        by-units =
+            λ is. record { u-p = omega (arith, candidate-units setting q e candidate); s-unused = r .s-unused; v-unused = r .v-unused };
         by-instances = λ is. absurd (clash is e);
       }))
       (λ e.
-      let room = eligible-instances setting q e (candidate-eligible setting q candidate) in
       with-service
       (record {
         u-m = sound .service .u-m;
-        s-m = by-test (λ (n : ℕ). n ≤ q .job .m) (eqb (q .at .v + 1) (q .job .c)) (λ f. omega (arith, room .0)) (λ f. sound .service .s-m);
+        s-m =
+            λ off.
+            let lacks = eligible-instances setting q e (off-eligible setting q off candidate) .0 in
+            by-test (λ (n : ℕ). n ≤ q .job .m) (eqb (q .at .v + 1) (q .job .c)) (λ f. omega arith) (λ f. sound .service .s-m off);
         by-units = λ is. absurd (clash e is);
-        by-instances = λ is. given-instances (sound .service .by-instances is) (room .1);
+        by-instances = λ is. given-instances (sound .service .by-instances is) (candidate-instances setting q e candidate);
       }))
 
   -- at another slot of the period, or with another tag

@@ -1,6 +1,6 @@
 -- The range of a place: the test of row 10 and the facts of specs/Sound.
 use mathlib.Core.Path.{_≡_, refl, ap}
-use mathlib.Core.Bool.{Bool, true, false, _&&_, not, cond}
+use mathlib.Core.Bool.{Bool, true, false, _&&_, _||_, not, cond}
 use mathlib.Core.Logic.{_↔_}
 use Prim.Native.Nat.{_*_, _≤_}
 use native.Mathlib.Omega.{arith}
@@ -75,47 +75,59 @@ module _ (setting : Setting) (q : Place) where
   abbrev Service : Type 0
   Service = SoundService setting (q .job) (q .at .p) (q .at .u) (q .at .s) (q .at .v)
 
+  -- the limit of m
+  abbrev InM : Type 0
+  InM = (setting .spare ≡ false → q .at .u ≤ q .job .m * q .job .c) × (setting .spare ≡ false → q .at .s ≤ q .job .m)
+
+  within-exactly : (withinM setting q ≡ true) ↔ InM
+  unfolding withinM
+  within-exactly = go (setting .spare) refl
+    where
+      in-u : Bool
+      in-u = leb (q .at .u) (q .job .m * q .job .c)
+
+      in-s : Bool
+      in-s = leb (q .at .s) (q .job .m)
+
+      go : (spare : Bool) → setting .spare ≡ spare → ((spare || (in-u && in-s)) ≡ true) ↔ InM
+      go true on = (λ e. (λ off. absurd (clash off on), λ off. absurd (clash off on)), λ m. refl)
+      go false off = (
+        λ e.
+            let t = both in-u in-s e in
+            (λ _. leb-true (q .at .u) (q .job .m * q .job .c) (t .0), λ _. leb-true (q .at .s) (q .job .m) (t .1)),
+        λ m. rw (le-leb (q .at .u) (q .job .m * q .job .c) (m .0 off), le-leb (q .at .s) (q .job .m) (m .1 off)),
+      )
+
   service-exactly : (serviceInRange setting q ≡ true) ↔ Service
-  unfolding serviceInRange withinM
+  unfolding serviceInRange
   service-exactly = go (byUnits setting) refl
     where
-      within : Bool
-      within = leb (q .at .u) (q .job .m * q .job .c) && leb (q .at .s) (q .job .m)
-
-      sized : within ≡ true → (q .at .u ≤ q .job .m * q .job .c) × (q .at .s ≤ q .job .m)
-      sized e =
-          let t = both (leb (q .at .u) (q .job .m * q .job .c)) (leb (q .at .s) (q .job .m)) e in
-          (leb-true (q .at .u) (q .job .m * q .job .c) (t .0), leb-true (q .at .s) (q .job .m) (t .1))
-
-      fits : Service → within ≡ true
-      fits s = rw (le-leb (q .at .u) (q .job .m * q .job .c) (s .u-m), le-leb (q .at .s) (q .job .m) (s .s-m))
-
       go :
           (units : Bool) → byUnits setting ≡ units
-          → ((within && cond units (unitsInRange q) (instancesInRange q)) ≡ true) ↔ Service
+          → ((withinM setting q && cond units (unitsInRange q) (instancesInRange q)) ≡ true) ↔ Service
       go true e = (
         λ t.
-            let parts = both within (unitsInRange q) t in
-            let m = sized (parts .0) in
+            let parts = both (withinM setting q) (unitsInRange q) t in
+            let m = within-exactly .0 (parts .0) in
             record {
               u-m = m .0;
               s-m = m .1;
               by-units = λ is. units-exactly q .0 (parts .1);
               by-instances = λ is. absurd (clash is e);
             },
-        λ s. rw (fits s) (units-exactly q .1 (s .by-units e)),
+        λ s. rw (within-exactly .1 (s .u-m, s .s-m)) (units-exactly q .1 (s .by-units e)),
       )
       go false e = (
         λ t.
-            let parts = both within (instancesInRange q) t in
-            let m = sized (parts .0) in
+            let parts = both (withinM setting q) (instancesInRange q) t in
+            let m = within-exactly .0 (parts .0) in
             record {
               u-m = m .0;
               s-m = m .1;
               by-units = λ is. absurd (clash e is);
               by-instances = λ is. instances-exactly q .0 (parts .1);
             },
-        λ s. rw (fits s) (instances-exactly q .1 (s .by-instances e)),
+        λ s. rw (within-exactly .1 (s .u-m, s .s-m)) (instances-exactly q .1 (s .by-instances e)),
       )
 
   -- a listed place

@@ -10,9 +10,9 @@ use Rattle.place.specs.declared.record.Place.{Place}
 use Rattle.place.specs.Sound.{Allowed}
 use Rattle.place.specs.Promise.{MadePromise, AllowedPromise, BlankPromise, OpenedPromise}
 
--- a setting of two numbers is these and nothing else
+-- a setting of two numbers is these, with spare off, and nothing else
 abbrev pub MadeOfBoth : Type 0
-MadeOfBoth = (order model : ℕ) (r : Setting) → MadePromise order model r → r ≡ record { order = order; model = model }
+MadeOfBoth = (order model : ℕ) (r : Setting) → MadePromise order model r → r ≡ record { order = order; model = model; spare = false }
 
 -- '15: order or model number not 0 or 1'
 abbrev pub AllowedAnswers : Type 0

@@ -1,6 +1,6 @@
 -- 'A state is in its ranges when ..': row 10 for one place, as a test.
 use Prim.Native.Nat.{_*_}
-use mathlib.Core.Bool.{Bool, _&&_, not, cond}
+use mathlib.Core.Bool.{Bool, _&&_, _||_, not, cond}
 use lib.Dec.{leb, ltb, eqb}
 use Rattle.job.specs.declared.record.Job.{Job}
 use Rattle.job.specs.Check.{jobTold}
@@ -12,9 +12,9 @@ use Rattle.place.specs.Setting.{byUnits}
 unfoldable pub jobPasses : Job → Bool
 jobPasses j = eqb (jobTold 0 j .number) 0
 
--- 'u ≤ .. mC', 's ≤ m': 'unused counters are 0', and so within m too
-unfoldable pub withinM : Place → Bool
-withinM q = leb (q .at .u) (q .job .m * q .job .c) && leb (q .at .s) (q .job .m)
+-- 'u ≤ .. mC', 's ≤ m': 'unused counters are 0', and so within m too. With spare on 'the ranges become u ≤ pC, and s loses its m limit' (02)
+unfoldable pub withinM : Setting → Place → Bool
+withinM setting q = setting .spare || (leb (q .at .u) (q .job .m * q .job .c) && leb (q .at .s) (q .job .m))
 
 -- 'u ≤ .. pC (relaxed)', 'unused counters are 0'
 unfoldable pub unitsInRange : Place → Bool
@@ -29,7 +29,7 @@ instancesInRange q =
     (leb (r .v) (q .job .c) && ltb (r .s) (r .p) && eqb (r .u) 0)
 
 unfoldable pub serviceInRange : Setting → Place → Bool
-serviceInRange setting q = withinM q && cond (byUnits setting) (unitsInRange q) (instancesInRange q)
+serviceInRange setting q = withinM setting q && cond (byUnits setting) (unitsInRange q) (instancesInRange q)
 
 -- 'e (slots gone in its period, 0 to T−1), p (period in its window, 1 to k)'
 unfoldable pub progressInRange : Setting → Place → Bool

@@ -1,6 +1,7 @@
--- 'Order 0 is V, 1 is W; model 0 is relaxed, 1 is original.' How a setting is made, and all that is asked of one.
+-- 'Order 0 is V, 1 is W; model 0 is relaxed, 1 is original'; 'a run setting, spare on or off' (document 02, Item 1). How a setting is made, and all
+-- that is asked of one.
 use Prim.Native.Nat.{ℕ}
-use mathlib.Core.Bool.{Bool, _&&_}
+use mathlib.Core.Bool.{Bool, false, _&&_}
 use lib.Dec.{leb, eqb}
 use Rattle.job.specs.Limit.{relaxed, original}
 use Rattle.place.specs.declared.setting.Setting.{Setting}
@@ -11,15 +12,18 @@ orderV = 0
 abbrev pub orderW : ℕ
 orderW = 1
 
--- a setting of an order and a model, and one with another order or another model
+-- a setting of an order and a model, with spare off; and one with another order, another model, or spare on or off
 abbrev pub settingOf : ℕ → ℕ → Setting
-settingOf order model = record { order = order; model = model }
+settingOf order model = record { order = order; model = model; spare = false }
 
 abbrev pub withOrder : Setting → ℕ → Setting
-withOrder s order = record { order = order; model = s .model }
+withOrder s order = record { order = order; model = s .model; spare = s .spare }
 
 abbrev pub withModel : Setting → ℕ → Setting
-withModel s model = record { order = s .order; model = model }
+withModel s model = record { order = s .order; model = model; spare = s .spare }
+
+abbrev pub withSpare : Setting → Bool → Setting
+withSpare s spare = record { order = s .order; model = s .model; spare = spare }
 
 -- '15: order or model number not 0 or 1'
 abbrev pub settingAllowed : Setting → Bool

@@ -27,10 +27,10 @@ pub record ServiceByInstances (job : Job) (p u s v : ℕ) : Type 0 where
   pub s-full : v ≡ job .c → 1 ≤ s
   pub u-unused : u ≡ 0
 
--- 'unused counters are 0', and so within m too
+-- 'unused counters are 0', and so within m too. With spare on 'the ranges become u ≤ pC, and s loses its m limit' (02)
 pub record SoundService (setting : Setting) (job : Job) (p u s v : ℕ) : Type 0 where
-  pub u-m : u ≤ job .m * job .c
-  pub s-m : s ≤ job .m
+  pub u-m : setting .spare ≡ false → u ≤ job .m * job .c
+  pub s-m : setting .spare ≡ false → s ≤ job .m
   pub by-units : byUnits setting ≡ true → ServiceByUnits job p u s v
   pub by-instances : byUnits setting ≡ false → ServiceByInstances job p u s v
 

@@ -1,11 +1,12 @@
 // How a run is run: its order and its service model, as numbers, so that a state of any content
-// can be handed in and refused.
+// can be handed in and refused; and whether spare slots are given away.
 ghost use Rattle.place.specs.Promise.{MadePromise, AllowedPromise};
 use job::Job;
 
 pub struct Setting {
     pub order: u32,
     pub model: u32,
+    pub spare: bool,
 }
 
 impl Setting {
@@ -14,11 +15,15 @@ impl Setting {
 
     pub const W: u32 = 1;
 
-    // A setting of any two numbers.
+    // A setting of any two numbers, with spare off.
     pub fn of(order: u32, model: u32) -> Setting
         ensures { λ r. ⌜ MadePromise order model r ⌝ }
     {
-        Setting { order, model }
+        Setting {
+            order,
+            model,
+            spare: false,
+        }
     }
 
     // Row 15.

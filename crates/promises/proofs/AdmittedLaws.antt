@@ -1,6 +1,7 @@
 -- What is known of an admitted list: it is sound, its cycle holds its load, and no window of its run misses anything.
 use mathlib.Core.Path.{_≡_, refl, sym, subst}
 use mathlib.Core.Logic.{_↔_}
+use mathlib.Core.Bool.{Bool}
 use Prim.Native.Nat.{ℕ, _≤_, _<_}
 use native.Mathlib.Omega.{arith}
 use lib.Dec.{eqb}
@@ -56,8 +57,8 @@ admits-exactly l = (to, from)
     )
 
 pub admitted-none-missed :
-    (l : JobList) → Holds l → (n : ℕ) → n ≤ clockMost → (i : ℕ) → i < l .count
-    → missedOf (at (runOf l n) i) (eqb i (chosenOf (runOf l n))) ≡ 0
-admitted-none-missed l holds =
-    run-none-missed l (holds .sound) (cycleOf l) (cycle-common l) (holds .loaded)
+    (spare : Bool) (l : JobList) → Holds l → (n : ℕ) → n ≤ clockMost → (i : ℕ) → i < l .count
+    → missedOf (at (runOf spare l n) i) (eqb i (chosenOf (runOf spare l n))) ≡ 0
+admitted-none-missed spare l holds =
+    run-none-missed spare l (holds .sound) (cycleOf l) (cycle-common l) (holds .loaded)
     (cycle-positive (l .jobs) (l .count) (holds .sound .jobs))

@@ -3,7 +3,6 @@ use mathlib.Core.Path.{_≡_, refl, sym, ap, subst, _∙_}
 use mathlib.Core.List.{List, [], _∷_, _++_}
 use Prim.Native.Nat.{ℕ}
 use lib.ListN.{length}
-use Rattle.place.specs.Setting.{settingOf}
 use Rattle.run.specs.declared.state.State.{State}
 use Rattle.run.specs.declared.answer.Slot.{Slot}
 use Rattle.run.specs.Answer.{byteOf}
@@ -43,9 +42,8 @@ write-follows l setting jobs allowed slots state run before offset n r after pro
     }
 
 pub fill-follows : FillFollows
-fill-follows jobs l held order model before offset n r after promise zero =
-    let setting = settingOf order model in
-    let told = fill-answers jobs l held order model before offset n r after promise in
+fill-follows jobs l held setting before offset n r after promise zero =
+    let told = fill-answers jobs l held setting before offset n r after promise in
     let starts = told .passes .0 zero .0 in
     let fills : FillsRun l setting before offset n after = told .runs zero in
     let kept : RunTold l setting (fills .slots) (fills .state) =

@@ -17,7 +17,7 @@ use Rattle.run.specs.declared.state.State.{State}
 use Rattle.run.specs.Choice.{chosenOf}
 use Rattle.run.specs.Slot.{turnOf}
 use Rattle.run.specs.Sound.{SoundState}
-use Rattle.job.proofs.TestLaws.{clash}
+use Rattle.job.proofs.TestLaws.{clash, refuted}
 use Rattle.place.proofs.PlaceLaws.{eligible-candidate, moved-job}
 use Rattle.run.proofs.HereLaws.{at, job-sound}
 use Rattle.run.proofs.ChoiceLaws.{ChoiceView, none-chosen, one-chosen, choice-view, window-order}
@@ -51,21 +51,17 @@ data Soonest (s : State) (a : ℕ) : Type 0 where
       a < s .count → IsEligible s a
       → ((i : ℕ) → i < s .count → IsEligible s i → leftOf (at s a) ≤ leftOf (at s i)) → Soonest s a
 
-not-so : (b : Bool) → (b ≡ true → ⊥) → b ≡ false
-not-so true wrong = absurd (wrong refl)
-not-so false wrong = refl
-
-window-soonest : (s : State) → s .setting .order ≡ orderW → Soonest s (chosenOf s)
-window-soonest s order = go (chosenOf s) (choice-view s)
+window-soonest : (s : State) → SoundState s → s .setting .order ≡ orderW → Soonest s (chosenOf s)
+window-soonest s sound order = go (chosenOf s) (choice-view s)
   where
     go : (a : ℕ) → ChoiceView s a → Soonest s a
     go a (none-chosen none) =
-        none-eligible (λ i h. not-so _ (λ e. clash (none i h) (eligible-candidate (s .setting) (at s i) e)))
+        none-eligible (λ i h. refuted (λ e. clash (none i h) (eligible-candidate (s .setting) (at s i) e)))
     go a (one-chosen j c) = by (eligibleOf (s .setting) (at s j)) refl
       where
         by : (b : Bool) → eligibleOf (s .setting) (at s j) ≡ b → Soonest s j
-        by true e = first-ending (c .listed) e (λ i h f. window-order s order c i h f .1)
-        by false e = none-eligible (λ i h. not-so _ (λ f. clash e (window-order s order c i h f .0)))
+        by true e = first-ending (c .listed) e (λ i h f. window-order s sound order c i h f .1)
+        by false e = none-eligible (λ i h. refuted (λ f. clash e (window-order s sound order c i h f .0)))
 
 module _ (N : ℕ) (s : State) (sound : SoundState s) (units : byUnits (s .setting) ≡ true) (time : OnTime N s) where
   -- what the slot leaves of place i, if place a is served
@@ -114,7 +110,7 @@ module _ (N : ℕ) (s : State) (sound : SoundState s) (units : byUnits (s .setti
     same-load = rw (turn-count s) (sum-same (s .count) (λ i h. ap (λ (j : Job). shareOf j N) (same-job i h)))
 
     within-load : (D : ℕ) → N * sumUpto (leaves (chosenOf s) D) (s .count) ≤ loadIn s N * D
-    within-load = slot-leaves (chosenOf s) (window-soonest s order)
+    within-load = slot-leaves (chosenOf s) (window-soonest s sound order)
 
     due-after : (D : ℕ) → dueIn after D ≤ sumUpto (leaves (chosenOf s) D) (s .count)
     due-after D = rw (turn-count s) (sum-most (s .count) (λ i h. rw (turn-place s sound i h) (omega arith)))

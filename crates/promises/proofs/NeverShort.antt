@@ -69,9 +69,9 @@ module _ (l : JobList) (bytes : List ℕ) (full : Full l bytes) (i : ℕ) (liste
       ∙ ap₂ (λ (from upto : ℕ). drop from (take upto bytes)) (sym start) last in
       rw (← seen) (full i listed w (omega arith))
 
-  not-short : (n : ℕ) → n < length bytes → endsShort l windowOrder bytes n i ≡ false
+  not-short : (spare : Bool) (n : ℕ) → n < length bytes → endsShort l (windowOrder spare) bytes n i ≡ false
   unfolding endsShort finished
-  not-short n inside = go (eqb ((n + 1) % window) 0) refl
+  not-short spare n inside = go (eqb ((n + 1) % window) 0) refl
     where
       had : ℕ
       had = slotsOf i (sinceWindow job n (take (n + 1) bytes))
@@ -84,12 +84,12 @@ module _ (l : JobList) (bytes : List ℕ) (full : Full l bytes) (i : ℕ) (liste
           le-ltb 0 (job .m - had / job .c) (omega arith)
 
 pub never-short : NeverShort
-never-short l admits slots state run =
+never-short l admits spare slots state run =
     let holds : Holds l = admits-exactly l .0 admits in
-    let told : RunTold l windowOrder slots state = run-follows l windowOrder (holds .sound) window-allowed slots state run in
-    let none : (n : ℕ) → n < length slots → (i : ℕ) → i < l .count → endsShort l windowOrder (bytesOf slots) n i ≡ false =
+    let told : RunTold l (windowOrder spare) slots state = run-follows l (windowOrder spare) (holds .sound) window-allowed slots state run in
+    let none : (n : ℕ) → n < length slots → (i : ℕ) → i < l .count → endsShort l (windowOrder spare) (bytesOf slots) n i ≡ false =
     λ n h i listed.
-    not-short l (bytesOf slots) (runs-lawful l admits slots state run .2) i listed (holds .sound .jobs i listed) n (omega (arith, told .long)) in (
+    not-short l (bytesOf slots) (runs-lawful l admits spare slots state run .2) i listed (holds .sound .jobs i listed) spare n (omega (arith, told .long)) in (
       λ n h.
           empty-set (getD slots n noSlot .shorts)
           (λ i bit.

@@ -1,6 +1,6 @@
 -- A run in window order from the fresh state of a list is on time: no window of it misses any of its service.
 use mathlib.Core.Path.{_≡_, refl, sym, ap, _∙_}
-use mathlib.Core.Bool.{true}
+use mathlib.Core.Bool.{Bool, true}
 use mathlib.Core.List.{List}
 use Prim.Native.Nat.{ℕ, zero, suc, _+_, _*_, _/_, min, _≤_, _<_}
 use native.Mathlib.Nat.{mul-le-mul-left, div-mul-le-self, div-mul-cancel}
@@ -78,37 +78,37 @@ module _ (l : JobList) (setting : Setting) (sound : SoundList l) where
         }
 
 -- window order is allowed
-pub window-allowed : Allowed windowOrder
+pub window-allowed : {spare : Bool} → Allowed (windowOrder spare)
 window-allowed = record { order = omega arith; model = omega arith }
 
 -- the run: its state after n slots
-abbrev pub runOf : JobList → ℕ → State
-runOf l n = afterSlots (freshOf l windowOrder) n
+abbrev pub runOf : Bool → JobList → ℕ → State
+runOf spare l n = afterSlots (freshOf l (windowOrder spare)) n
 
-module _ (l : JobList) where
-  pub run-units : (n : ℕ) → byUnits (runOf l n .setting) ≡ true
-  run-units n = ap byUnits (after-setting (freshOf l windowOrder) n)
+module _ (spare : Bool) (l : JobList) where
+  pub run-units : (n : ℕ) → byUnits (runOf spare l n .setting) ≡ true
+  run-units n = ap byUnits (after-setting (freshOf l (windowOrder spare)) n)
 
-  run-order : (n : ℕ) → runOf l n .setting .order ≡ orderW
-  run-order n = ap (λ (x : Setting). x .order) (after-setting (freshOf l windowOrder) n)
+  run-order : (n : ℕ) → runOf spare l n .setting .order ≡ orderW
+  run-order n = ap (λ (x : Setting). x .order) (after-setting (freshOf l (windowOrder spare)) n)
 
-  pub run-listed : (n : ℕ) {i : ℕ} → i < l .count → i < runOf l n .count
-  run-listed n listed = rw (after-count (freshOf l windowOrder) n) listed
+  pub run-listed : (n : ℕ) {i : ℕ} → i < l .count → i < runOf spare l n .count
+  run-listed n listed = rw (after-count (freshOf l (windowOrder spare)) n) listed
 
   module _ (sound : SoundList l) where
-    pub run-sound : (n : ℕ) → n ≤ clockMost → SoundState (runOf l n)
-    run-sound n high = after-sound (freshOf l windowOrder) (fresh-sound l windowOrder sound window-allowed) n (omega arith)
+    pub run-sound : (n : ℕ) → n ≤ clockMost → SoundState (runOf spare l n)
+    run-sound n high = after-sound (freshOf l (windowOrder spare)) (fresh-sound l (windowOrder spare) sound window-allowed) n (omega arith)
 
     module _ (N : ℕ) (common : CommonMultiple l N) (fits : loadOf l N ≤ N) where
-      run-on-time : (n : ℕ) → n ≤ clockMost → OnTime N (runOf l n)
+      run-on-time : (n : ℕ) → n ≤ clockMost → OnTime N (runOf spare l n)
       unfolding afterSlots
-      run-on-time zero high = fresh-on-time l windowOrder sound N common fits
+      run-on-time zero high = fresh-on-time l (windowOrder spare) sound N common fits
       run-on-time (suc n) high =
-          on-time-next N (runOf l n) (run-sound n (omega arith)) (run-units n) (run-on-time n (omega arith)) (run-order n)
+          on-time-next N (runOf spare l n) (run-sound n (omega arith)) (run-units n) (run-on-time n (omega arith)) (run-order n)
 
       pub run-none-missed :
           0 < N → (n : ℕ) → n ≤ clockMost → (i : ℕ) → i < l .count
-          → missedOf (at (runOf l n) i) (eqb i (chosenOf (runOf l n))) ≡ 0
+          → missedOf (at (runOf spare l n) i) (eqb i (chosenOf (runOf spare l n))) ≡ 0
       run-none-missed some n high i listed =
-          none-missed N (runOf l n) (run-sound n high) (run-units n) (run-on-time n high) (run-order n) some i
+          none-missed N (runOf spare l n) (run-sound n high) (run-units n) (run-on-time n high) (run-order n) some i
           (run-listed n listed)

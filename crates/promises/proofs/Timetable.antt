@@ -1,6 +1,7 @@
 -- Demand 3, the first half: a run of an admitted list in window order is lawful and full; so a list is admitted exactly if some lawful,
 -- full timetable of one cycle exists.
 use mathlib.Core.Path.{_≡_, refl, sym, ap, ap₂, subst, _∙_}
+use mathlib.Core.Bool.{Bool, false}
 use mathlib.Core.Logic.{_↔_, _⊎_, inl, inr}
 use mathlib.Core.List.{List}
 use Prim.Native.Nat.{ℕ, _+_, _-_, _*_, _/_, _%_, _≤_, _<_}
@@ -24,6 +25,7 @@ use Rattle.admission.proofs.Meaning.{admitted-exactly}
 use Rattle.admission.proofs.AnswerLaws.{admission-one-to-one}
 use Rattle.run.specs.State.{clockMost, freshOf}
 use Rattle.run.specs.Calls.{bytesOf}
+use Rattle.run.specs.Best.{by-need, as-spare}
 use Rattle.run.proofs.RunLaws.{choices-long, choices-take}
 use Rattle.run.proofs.CallLaws.{run-slots}
 use Rattle.rules.specs.Rules.{idleByte, slotsOf, sinceWindow, Chooses, picked, idled}
@@ -55,54 +57,55 @@ module _ (l : JobList) (N : ℕ) (common : CommonMultiple l N) (bytes : List ℕ
       omega (arith, load-sum (l .jobs) N (l .count), sum-most (l .count) share-served, slots-high (l .count) bytes)
 
 -- the choices of an admitted list in window order, however many, are lawful and full
-module _ (l : JobList) (holds : Holds l) (slots : ℕ) (high : slots ≤ clockMost) where
-  inside-run : {n : ℕ} → n < length (runBytes l slots) → n < slots
-  inside-run h = rw (choices-long (freshOf l windowOrder) slots) at h
+module _ (spare : Bool) (l : JobList) (holds : Holds l) (slots : ℕ) (high : slots ≤ clockMost) where
+  inside-run : {n : ℕ} → n < length (runBytes spare l slots) → n < slots
+  inside-run h = rw (choices-long (freshOf l (windowOrder spare)) slots) at h
 
-  choices-lawful : Lawful l (runBytes l slots)
+  choices-lawful : Lawful l (runBytes spare l slots)
   choices-lawful i listed n inside =
-      rw (choices-take (freshOf l windowOrder) (n + 1) slots (omega (arith, inside-run inside)))
-      (slots-most l (holds .sound) i listed n (omega (arith, inside-run inside)))
+      rw (choices-take (freshOf l (windowOrder spare)) (n + 1) slots (omega (arith, inside-run inside)))
+      (slots-most spare l (holds .sound) i listed n (omega (arith, inside-run inside)))
 
-  choices-full : Full l (runBytes l slots)
+  choices-full : Full l (runBytes spare l slots)
   choices-full i listed w inside =
       let j : Job = jobAt (l .jobs) i in
       let start : ℕ = w * windowOf j in
       let last : ℕ = start + (windowOf j - 1) in
       let some : 0 < windowOf j = window-positive (holds .sound .jobs i listed) in
-      let fits : start + windowOf j ≤ slots = rw (choices-long (freshOf l windowOrder) slots) at inside in
+      let fits : start + windowOf j ≤ slots = rw (choices-long (freshOf l (windowOrder spare)) slots) at inside in
       let rest : last % windowOf j ≡ windowOf j - 1 = digits-mod w (omega arith) in
       let opens : last - last % windowOf j ≡ start = omega arith in
       let next : last + 1 ≡ start + windowOf j = omega arith in
-      let seen : take (windowOf j) (drop start (runBytes l slots)) ≡ sinceWindow j last (runBytes l (last + 1)) =
-      part-of-front start (windowOf j) (runBytes l slots) (omega arith)
-      ∙ ap (drop start) (choices-take (freshOf l windowOrder) (start + windowOf j) slots fits)
-      ∙ ap₂ (λ (from upto : ℕ). drop from (runBytes l upto)) (sym opens) (sym next) in
-      rw seen (slots-full l (holds .sound) i listed last (omega arith) holds (omega arith))
+      let seen : take (windowOf j) (drop start (runBytes spare l slots)) ≡ sinceWindow j last (runBytes spare l (last + 1)) =
+      part-of-front start (windowOf j) (runBytes spare l slots) (omega arith)
+      ∙ ap (drop start) (choices-take (freshOf l (windowOrder spare)) (start + windowOf j) slots fits)
+      ∙ ap₂ (λ (from upto : ℕ). drop from (runBytes spare l upto)) (sym opens) (sym next) in
+      rw seen (slots-full spare l (holds .sound) i listed last (omega arith) holds (omega arith))
 
 -- so is a run, which has these choices
 pub runs-lawful : RunsLawful
-runs-lawful l admits slots state run =
+runs-lawful l admits spare slots state run =
     let holds : Holds l = admits-exactly l .0 admits in
-    let told : RunTold l windowOrder slots state = run-follows l windowOrder (holds .sound) window-allowed slots state run in
-    let short : length slots ≤ clockMost = run-short l windowOrder (holds .sound) window-allowed slots state run in
-    let same : runBytes l (length slots) ≡ bytesOf slots = sym (run-slots run .bytes-are) in (
+    let told : RunTold l (windowOrder spare) slots state = run-follows l (windowOrder spare) (holds .sound) window-allowed slots state run in
+    let short : length slots ≤ clockMost = run-short l (windowOrder spare) (holds .sound) window-allowed slots state run in
+    let same : runBytes spare l (length slots) ≡ bytesOf slots = sym (run-slots run .bytes-are) in (
       record { long = told .long; named = λ n h. named (told .follows n (omega (arith, told .long))) },
-      subst (Lawful l) same (choices-lawful l holds (length slots) short),
-      subst (Full l) same (choices-full l holds (length slots) short),
+      subst (Lawful l) same (choices-lawful spare l holds (length slots) short),
+      subst (Full l) same (choices-full spare l holds (length slots) short),
     )
   where
     named :
-        {n b : ℕ} {seen : List ℕ} → Chooses l windowOrder n seen b → (b < l .count) ⊎ (b ≡ idleByte)
-    named (picked j p) = inl (p .listed)
+        {n b : ℕ} {seen : List ℕ} → Chooses l (windowOrder spare) n seen b → (b < l .count) ⊎ (b ≡ idleByte)
+    named (picked j (by-need best)) = inl (best .listed)
+    named (picked j (as-spare _ best)) = inl (best .listed)
     named (idled none) = inr refl
 
 pub admitted-exactly-if-timetable : AdmittedExactlyIfTimetable
 admitted-exactly-if-timetable l h sound cycle short = (
   λ admits.
       let holds : Holds l = admits-exactly l .0 admits in
-      let one = run-exists l windowOrder (holds .sound) window-allowed h (omega arith) in
-      let table = runs-lawful l admits (one .slots) (one .state) (one .run) in
+      let one = run-exists l (windowOrder false) (holds .sound) window-allowed h (omega arith) in
+      let table = runs-lawful l admits false (one .slots) (one .state) (one .run) in
       record {
         bytes = bytesOf (one .slots);
         names = subst (λ (n : ℕ). Timetable l n (bytesOf (one .slots))) (one .long) (table .0);

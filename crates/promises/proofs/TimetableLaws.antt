@@ -36,8 +36,8 @@ use Rattle.promises.proofs.OnTimeLaws.{window-allowed, runOf, run-units
 use Rattle.promises.proofs.AdmittedLaws.{Holds, admitted-none-missed}
 
 -- the choices of the run
-abbrev pub runBytes : JobList → ℕ → List ℕ
-runBytes l n = choicesOf (freshOf l windowOrder) n
+abbrev pub runBytes : Bool → JobList → ℕ → List ℕ
+runBytes spare l n = choicesOf (freshOf l (windowOrder spare)) n
 
 -- a part of a list, seen from where it ends
 pub part-of-front : (n m : ℕ) (bytes : List ℕ) → n ≤ length bytes → take m (drop n bytes) ≡ drop n (take (n + m) bytes)
@@ -46,48 +46,48 @@ part-of-front n m bytes h =
     (ap (drop n) (take-add n m bytes)
     ∙ drop-at (take n bytes) (take m (drop n bytes)) n (length-take-le n bytes h))
 
-module _ (l : JobList) (sound : SoundList l) (i : ℕ) (listed : i < l .count) (n : ℕ) (below : n < clockMost) where
+module _ (spare : Bool) (l : JobList) (sound : SoundList l) (i : ℕ) (listed : i < l .count) (n : ℕ) (below : n < clockMost) where
   abbrev job : Job
   job = jobAt (l .jobs) i
 
   abbrev place : Place
-  place = at (runOf l n) i
+  place = at (runOf spare l n) i
 
   abbrev chosen : Bool
-  chosen = eqb (nextByte (runOf l n)) i
+  chosen = eqb (nextByte (runOf spare l n)) i
 
-  place-told : PlaceHistory windowOrder job i n (runBytes l n) place
-  place-told = places-told l windowOrder sound window-allowed n (omega arith) i listed
+  place-told : PlaceHistory (windowOrder spare) job i n (runBytes spare l n) place
+  place-told = places-told l (windowOrder spare) sound window-allowed n (omega arith) i listed
 
   -- the slots of the window open in slot n, that slot counted
-  slots-told : slotsOf i (sinceWindow job n (runBytes l (n + 1))) ≡ usedOf place chosen
+  slots-told : slotsOf i (sinceWindow job n (runBytes spare l (n + 1))) ≡ usedOf place chosen
   slots-told =
-      let next : List ℕ = nextByte (runOf l n) ∷ [] in
-      ap (λ (x : List ℕ). slotsOf i (sinceWindow job n x)) (choices-more (freshOf l windowOrder) n)
+      let next : List ℕ = nextByte (runOf spare l n) ∷ [] in
+      ap (λ (x : List ℕ). slotsOf i (sinceWindow job n x)) (choices-more (freshOf l (windowOrder spare)) n)
       ∙ ap (slotsOf i)
-      (drop-append-le (n - n % windowOf job) (runBytes l n) next (omega (arith, choices-long (freshOf l windowOrder) n)))
-      ∙ countIn-more (λ b. eqb b i) (sinceWindow job n (runBytes l n)) (nextByte (runOf l n))
+      (drop-append-le (n - n % windowOf job) (runBytes spare l n) next (omega (arith, choices-long (freshOf l (windowOrder spare)) n)))
+      ∙ countIn-more (λ b. eqb b i) (sinceWindow job n (runBytes spare l n)) (nextByte (runOf spare l n))
       ∙ ap (λ (u : ℕ). cond chosen (u + 1) u) (sym (place-told .u-is refl))
 
   -- they are at most C for each period begun
-  pub slots-most : slotsOf i (sinceWindow job n (runBytes l (n + 1))) ≤ job .c * periodsBegun job n
+  pub slots-most : slotsOf i (sinceWindow job n (runBytes spare l (n + 1))) ≤ job .c * periodsBegun job n
   slots-most =
-      let now : SoundState (runOf l n) = run-sound l sound n (omega arith) in
-      let here : i < runOf l n .count = run-listed l n listed in
+      let now : SoundState (runOf spare l n) = run-sound spare l sound n (omega arith) in
+      let here : i < runOf spare l n .count = run-listed spare l n listed in
       let c-same : place .job .c ≡ job .c = ap (λ (j : Job). j .c) (place-told .same-job) in
       rw (slots-told, mul-comm (job .c) (periodsBegun job n), ← c-same, ← place-told .p-is)
-      (used-most (job-sound now i here) (run-units l n) chosen (byte-fair (runOf l n) now i here))
+      (used-most (job-sound now i here) (run-units spare l n) chosen (byte-fair (runOf spare l n) now i here))
 
   -- and at least m times C where the window ends
   pub slots-full :
-      Holds l → n % windowOf job + 1 ≡ windowOf job → serviceOf job ≤ slotsOf i (sinceWindow job n (runBytes l (n + 1)))
+      Holds l → n % windowOf job + 1 ≡ windowOf job → serviceOf job ≤ slotsOf i (sinceWindow job n (runBytes spare l (n + 1)))
   slots-full holds closes =
-      let now : SoundState (runOf l n) = run-sound l sound n (omega arith) in
-      let here = place-sound l windowOrder sound window-allowed n (omega arith) i listed in
+      let now : SoundState (runOf spare l n) = run-sound spare l sound n (omega arith) in
+      let here = place-sound l (windowOrder spare) sound window-allowed n (omega arith) i listed in
       let next : (n + 1) % windowOf job ≡ 0 = ap (_% windowOf job) (add-one n) ∙ cycle-ends (windowOf job) n closes in
       let over : windowEnds place ≡ true =
-      ends-told windowOrder job i n (runBytes l n) place place-told here (sound .jobs i listed) (choices-long (freshOf l windowOrder) n)
+      ends-told (windowOrder spare) job i n (runBytes spare l n) place place-told here (sound .jobs i listed) (choices-long (freshOf l (windowOrder spare)) n)
       ∙ eq-eqb ((n + 1) % windowOf job) 0 next in
       let none : missedOf place chosen ≡ 0 =
-      rw (byte-at (runOf l n) now i (run-listed l n listed)) (admitted-none-missed l holds n (omega arith) i listed) in
+      rw (byte-at (runOf spare l n) now i (run-listed spare l n listed)) (admitted-none-missed spare l holds n (omega arith) i listed) in
       rw (slots-told, ← place-told .same-job) (omega (arith, missed-over place chosen over))

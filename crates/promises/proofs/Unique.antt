@@ -86,6 +86,7 @@ bytes-unique =
             e .2 ∙ sym (f .2),
           );
       admit-entry = λ jobs model. fixed _;
+      fill = λ jobs setting before offset n a b x y e f. (e .0 ∙ sym (f .0), e .1 ∙ sym (f .1));
       fill-entry = λ jobs order model before offset n a b x y e f. (e .0 ∙ sym (f .0), e .1 ∙ sym (f .1));
       blank-sheet = fixed _;
       read =

@@ -8,7 +8,6 @@ use Rattle.job.specs.declared.list.JobList.{JobList}
 use Rattle.job.specs.declared.refusal.Checked.the-variants.{Passed}
 use Rattle.job.specs.Sound.{SoundList}
 use Rattle.place.specs.declared.setting.Setting.{Setting}
-use Rattle.place.specs.Setting.{settingOf}
 use Rattle.place.specs.Sound.{Allowed}
 use Rattle.run.specs.declared.state.State.{State}
 use Rattle.run.specs.declared.answer.Slot.{Slot}
@@ -17,7 +16,7 @@ use Rattle.rules.specs.Rules.{Follows}
 use Rattle.rules.specs.Meaning.{StateTold}
 use Rattle.timetable.specs.declared.writer.Written.{Written}
 use Rattle.timetable.specs.Promise.{WritePromise}
-use Rattle.entry.specs.Promise.{FillEntryPromise}
+use Rattle.entry.specs.Promise.{FillPromise}
 use Rattle.entry.specs.Meaning.{BytesOfList}
 
 -- n bytes from the offset on
@@ -36,13 +35,12 @@ WriteFollows =
     → Run l setting slots state → (before : List ℕ) (offset n : ℕ) (r : Written) (after : List ℕ)
     → WritePromise state before offset n r after → r .answer ≡ Passed → WriteKeeps l setting slots offset n after (r .state)
 
--- `filbertoss_fill`: where it returns 0, the bytes written keep the rules
+-- `fill`, and so `filbertoss_fill` (`EntryFills` of entry): where it returns 0, the bytes written keep the rules
 pub record FillKeeps (l : JobList) (setting : Setting) (offset n : ℕ) (after : List ℕ) : Type 0 where
   pub long : length (part after offset n) ≡ n
   pub follows : Follows l setting (part after offset n)
 
 abbrev pub FillFollows : Type 0
 FillFollows =
-    (jobs : List ℕ) (l : JobList) → BytesOfList jobs l → (order model : ℕ) (before : List ℕ) (offset n r : ℕ) (after : List ℕ)
-    → FillEntryPromise jobs order model before offset n r after → r ≡ 0
-    → FillKeeps l (settingOf order model) offset n after
+    (jobs : List ℕ) (l : JobList) → BytesOfList jobs l → (setting : Setting) (before : List ℕ) (offset n r : ℕ) (after : List ℕ)
+    → FillPromise jobs setting before offset n r after → r ≡ 0 → FillKeeps l setting offset n after

@@ -4,6 +4,7 @@ use Prim.Native.Nat.{ℕ, _≤_, _<_}
 use lib.ListN.{length, getD}
 use mathlib.Core.Path.{_≡_}
 use mathlib.Core.Logic.{_↔_}
+use mathlib.Core.Bool.{Bool}
 use mathlib.Core.List.{List}
 use Rattle.job.specs.declared.list.JobList.{JobList}
 use Rattle.job.specs.Limit.{relaxed, cycleMost}
@@ -13,7 +14,6 @@ use Rattle.admission.specs.declared.answer.Admission.the-variants.{Admitted}
 use Rattle.admission.specs.Promise.{VerdictPromise}
 use Rattle.admission.specs.Judged.{LeastCommonMultiple}
 use Rattle.place.specs.declared.setting.Setting.{Setting}
-use Rattle.place.specs.Setting.{settingOf}
 use Rattle.run.specs.declared.state.State.{State}
 use Rattle.run.specs.declared.answer.Slot.{Slot}
 use Rattle.run.specs.Calls.{Run, bytesOf}
@@ -42,18 +42,18 @@ AnswerExactlyIfTimetable =
     (l : JobList) (h : ℕ) (r : Admission) → VerdictPromise l relaxed r → SoundList l → LeastCommonMultiple l h → h ≤ cycleMost
     → ((d : ℕ) × (r ≡ Admitted h d)) ↔ CycleTimetable l h
 
--- the second half: 'run in window order from slot 0', where 'order .. 1 is W; model 0 is relaxed'
-abbrev pub windowOrder : Setting
-windowOrder = settingOf 1 0
+-- the second half: 'run in window order from slot 0', where 'order .. 1 is W; model 0 is relaxed'. 'Demand 3 holds with it on or off' (02, Item 1)
+abbrev pub windowOrder : Bool → Setting
+windowOrder spare = record { order = 1; model = 0; spare = spare }
 
 -- no slot of a run of an admitted list tells a short window, and none is counted; there are runs up to the clock's limit (`RunExists` of rules)
 abbrev pub NeverShort : Type 0
 NeverShort =
-    (l : JobList) → Admits l → (slots : List Slot) (state : State) → Run l windowOrder slots state
+    (l : JobList) → Admits l → (spare : Bool) (slots : List Slot) (state : State) → Run l (windowOrder spare) slots state
     → ((n : ℕ) → n < length slots → getD slots n noSlot .shorts ≡ 0) × (state .totals .shorts ≡ 0)
 
 -- such a run, of any length, is a lawful timetable in which every ended window is full
 abbrev pub RunsLawful : Type 0
 RunsLawful =
-    (l : JobList) → Admits l → (slots : List Slot) (state : State) → Run l windowOrder slots state
+    (l : JobList) → Admits l → (spare : Bool) (slots : List Slot) (state : State) → Run l (windowOrder spare) slots state
     → Timetable l (length slots) (bytesOf slots) × Lawful l (bytesOf slots) × Full l (bytesOf slots)

@@ -18,7 +18,7 @@ use Rattle.run.specs.declared.answer.Slot.{Slot}
 use Rattle.run.specs.declared.answer.StepAnswer.{StepAnswer}
 use Rattle.run.specs.Promise.{ZerosPromise, FreshPromise, InRangePromise, StartPromise, StepPromise}
 use Rattle.timetable.specs.Promise.{WritePromise}
-use Rattle.entry.specs.Promise.{AdmitEntryPromise, FillEntryPromise}
+use Rattle.entry.specs.Promise.{AdmitEntryPromise, FillPromise, FillEntryPromise}
 use Rattle.sheet.specs.Promise.{BlankPromise as BlankSheetPromise, ReadPromise}
 use Rattle.lines.specs.Promise.{SlotLinePromise, RefusalLinePromise, AnswerLinePromise, AdmissionLinePromise, TotalsLinePromise}
 
@@ -61,10 +61,12 @@ pub record RunUnique : Type 0 where
   pub start : (l : JobList) (s : Setting) → Unique (StartPromise l s)
   pub step : (s : State) → Unique (StepPromise s)
 
--- `write`, the C entries, `Sheet`, `sheet::read`, the five lines
+-- `write`, the C entries and `fill`, `Sheet`, `sheet::read`, the five lines
 pub record BytesUnique : Type 0 where
   pub write : (s : State) (before : List ℕ) (offset n : ℕ) → BothUnique (WritePromise s before offset n)
   pub admit-entry : (jobs : List ℕ) (model : ℕ) → Unique (AdmitEntryPromise jobs model)
+  pub fill :
+      (jobs : List ℕ) (setting : Setting) (before : List ℕ) (offset n : ℕ) → BothUnique (FillPromise jobs setting before offset n)
   pub fill-entry :
       (jobs : List ℕ) (order model : ℕ) (before : List ℕ) (offset n : ℕ)
       → BothUnique (FillEntryPromise jobs order model before offset n)

@@ -34,10 +34,10 @@ use Rattle.run.proofs.AnswerLaws.{StepView, out-of-range, at-limit, goes-on, st
 use Rattle.run.proofs.RunLaws.{after-setting, after-count, after-clock, choices-long, choices-take, choice-at}
 use Rattle.run.proofs.CallLaws.{Slots, answersOf, answer-at, answers-long, steps-clock, steps-exist, run-slots}
 use Rattle.rules.specs.Rules.{idleByte, jobOf, Chooses, picked, idled, Follows}
-use Rattle.rules.specs.Meaning.{SlotTold, PlaceTold, StateTold, noSlot, RunTold, RunFollows, OnlyRun, RunStarts, RunGoesOn, RunExists}
+use Rattle.rules.specs.Meaning.{SlotTold, PlaceTold, StateTold, noSlot, RunTold, RunFollows, OnlyRun, FollowsDue, OffKeeps, RunStarts, RunGoesOn, RunExists}
 use Rattle.rules.proofs.HistoryLaws.{PlaceHistory}
 use Rattle.rules.proofs.PlaceLaws.{u-told, v-told, s-told}
-use Rattle.rules.proofs.ChoiceLaws.{one-choice}
+use Rattle.rules.proofs.ChoiceLaws.{one-choice, off-chooses, chooses-off}
 use Rattle.rules.proofs.RunLaws.{sound-after, place-sound, places-told, given-after, idle-after, tag-after, slot-told, tags-after, shorts-after}
 
 -- a slot that is answered by the rules has the byte that they call for
@@ -156,6 +156,14 @@ pub only-run : OnlyRun
 only-run l setting jobs allowed slots state run bytes long follows =
     let told = run-told l setting jobs allowed slots state run in
     follows-same l setting bytes (bytesOf slots) (long ∙ sym (told .long)) follows (told .follows)
+
+pub off-keeps : OffKeeps
+off-keeps l setting jobs allowed off slots state run bytes long = (
+  λ follows. only-run l setting jobs allowed slots state run bytes long (λ n h. off-chooses l setting off n _ (follows n h)),
+  λ same.
+      subst (FollowsDue l setting) (sym same)
+      (λ n h. chooses-off l setting off n _ (run-told l setting jobs allowed slots state run .follows n h)),
+)
 
 pub run-starts : RunStarts
 run-starts l setting jobs allowed r promise =

@@ -1,22 +1,12 @@
 -- Moments in absolute time beside distances from now: the same order, with no sign.
-use mathlib.Core.Path.{_≡_, refl, sym, ap, ap₂, _∙_}
-use mathlib.Core.Bool.{Bool, true, false}
+use mathlib.Core.Path.{_≡_, sym, ap, ap₂, _∙_}
 use Prim.Native.Nat.{ℕ, _+_, _*_}
 use native.Mathlib.Omega.{arith}
-use lib.Dec.{leb, ltb}
-use borrow.Author.Tests.{leb-true, leb-false, le-leb, lt-leb}
+use lib.Dec.{ltb}
 use Rattle.place.specs.declared.inner.choice.Fraction.{Fraction}
 use Rattle.place.specs.Choice.{nearerOf}
 use Rattle.place.proofs.DistanceLaws.{plus, minus, side, nearer-is, ltb-shift}
 use Rattle.rules.specs.Rules.{Moment, sooner}
-
--- two comparisons of numbers that lie equally far apart
-pub leb-shift : (x y u v c d : ℕ) → x + c ≡ u + d → y + c ≡ v + d → leb x y ≡ leb u v
-leb-shift x y u v c d e f = go (leb u v) refl
-  where
-    go : (b : Bool) → leb u v ≡ b → leb x y ≡ b
-    go true g = le-leb x y (let h = leb-true u v g in omega arith)
-    go false g = lt-leb x y (let h = leb-false u v g in omega arith)
 
 -- a moment is as far from slot n as a distance says
 pub record Away (n : ℕ) (a : Moment) (h : Fraction) : Type 0 where

@@ -14,16 +14,16 @@ use Rattle.place.specs.declared.setting.Setting.{Setting}
 use Rattle.place.specs.declared.record.Place.{Place}
 use Rattle.place.specs.Setting.{byUnits, inOrderV}
 use Rattle.place.specs.Place.{windowLeft, leftOf, finishedOf, owedOf, eligibleOf, numeratorOf, overdueOf, windowEnds}
-use Rattle.place.specs.Choice.{candidateOf, virtualAway, windowAway, distanceOf}
+use Rattle.place.specs.Choice.{roomOf, takesSpare, virtualAway, windowAway, dueAway}
 use Rattle.place.specs.Sound.{SoundPlace}
 use Rattle.place.proofs.CondLaws.{by-test}
 use Rattle.place.proofs.SignedLaws.{difference-most}
-use Rattle.place.proofs.DistanceLaws.{difference-parts}
-use Rattle.rules.specs.Rules.{slotsOf, finishedIn, windowStart, periodStart, periodsBegun, sinceWindow, finished, owed, due, virtualDeadline, deadline}
+use Rattle.place.proofs.DistanceLaws.{difference-parts, leb-shift}
+use Rattle.rules.specs.Rules.{slotsOf, finishedIn, windowStart, periodStart, periodsBegun, windowEnd, sinceWindow, ofWindow, ofPeriod, finished, owed, due, takes, virtualDeadline, deadline}
 use Rattle.rules.proofs.BytesLaws.{finished-rest}
 use Rattle.rules.proofs.CycleLaws.{Tick, nothing-ends, period-ends, window-ends, cycle-goes-on, cycle-ends, window-split, begun-high, tick}
 use Rattle.rules.proofs.HistoryLaws.{sincePeriod, PlaceHistory, Worked}
-use Rattle.rules.proofs.MomentLaws.{Away, leb-shift}
+use Rattle.rules.proofs.MomentLaws.{Away}
 
 -- the instances finished, of a place whose service the bytes tell
 module _ (setting : Setting) (job : Job) (sound : SoundJob job) (j n : ℕ) (seen : List ℕ) where
@@ -81,26 +81,37 @@ module _
     owed-told : owedOf setting q ≡ owed setting job j n seen
     owed-told = owed-is setting job sound j n seen q worked
 
-    pub due-told : candidateOf setting q ≡ due setting job j n seen
-    unfolding candidateOf eligibleOf due finished
+    s-finished : byUnits setting ≡ false → q .at .s ≡ finished setting job j n seen
+    unfolding finished
+    s-finished e = told .s-is e ∙ periods-rest setting job sound j n seen (worked .short) ∙ rw e
+
+    pub due-told : eligibleOf setting q ≡ due setting job j n seen
+    unfolding eligibleOf due
     due-told = go (byUnits setting) refl
       where
         u : ℕ
-        u = slotsOf j (sinceWindow job n seen)
-
-        v : ℕ
-        v = slotsOf j (sincePeriod job n seen)
+        u = ofWindow setting job j n seen
 
         go :
             (b : Bool) → byUnits setting ≡ b
             → cond b (ltb (q .at .u) (q .job .m * q .job .c) && ltb (q .at .u) (q .at .p * q .job .c))
             (ltb (q .at .s) (q .job .m) && ltb (q .at .v) (q .job .c))
             ≡ cond b (ltb u (job .m * job .c) && ltb u (periodsBegun job n * job .c))
-            (ltb (finished setting job j n seen) (job .m) && ltb v (job .c))
+            (ltb (finished setting job j n seen) (job .m) && ltb (ofPeriod setting job j n seen) (job .c))
         go true e = rw (told .u-is e, told .p-is, told .same-job)
-        go false e =
-            let s-told : q .at .s ≡ finished setting job j n seen = told .s-is e ∙ periods-rest setting job sound j n seen (worked .short) ∙ rw e in
-            rw (s-told, told .v-is e, told .same-job)
+        go false e = rw (s-finished e, told .v-is e, told .same-job)
+
+    pub takes-told : takesSpare setting q ≡ takes setting job j n seen
+    unfolding takesSpare roomOf takes
+    takes-told = ap₂ (λ (m′ : ℕ) (room : Bool). setting .spare && eqb m′ 0 && room) owed-told (go (byUnits setting) refl)
+      where
+        go :
+            (b : Bool) → byUnits setting ≡ b
+            → cond b (ltb (q .at .u) (q .at .p * q .job .c)) (ltb (q .at .s) (q .at .p) && ltb (q .at .v) (q .job .c))
+            ≡ cond b (ltb (ofWindow setting job j n seen) (periodsBegun job n * job .c))
+            (ltb (finished setting job j n seen) (periodsBegun job n) && ltb (ofPeriod setting job j n seen) (job .c))
+        go true e = rw (told .u-is e, told .p-is, told .same-job)
+        go false e = rw (s-finished e, told .v-is e, told .p-is, told .same-job)
 
     -- the counters, those of the other model too
     pub u-told : q .at .u ≡ cond (eqb (setting .model) 0) (slotsOf j (sinceWindow job n seen)) 0
@@ -127,14 +138,24 @@ module _
     begins : periodStart job n + q .at .e ≡ n
     begins = omega (arith, told .e-is, mod-le n (job .t))
 
-    pub away : Away n (deadline setting job j n seen) (distanceOf setting q)
-    unfolding deadline distanceOf numeratorOf leftOf
+    -- k'T and the periods before this one make the window
+    parts : (job .k - periodsBegun job n + 1) * job .t + n % (job .k * job .t) / job .t * job .t ≡ job .k * job .t
+    parts =
+        let high = begun-high (job .t) (job .k) n (sound .t .low) (sound .k .low) in
+        let all : job .k - periodsBegun job n + 1 + n % (job .k * job .t) / job .t ≡ job .k = omega arith in
+        omega (arith, ap (_* job .t) all)
+
+    pub ends-away : n + leftOf q ≡ windowEnd job n
+    unfolding leftOf
+    ends-away = rw left-told (omega (arith, told .e-is, gone, mod-le n (job .k * job .t), split, parts))
+
+    pub away : Away n (deadline setting job j n seen) (dueAway setting q)
+    unfolding deadline dueAway numeratorOf
     away = go (inOrderV setting)
       where
         go :
             (b : Bool)
-            → Away n
-            (cond b (virtualDeadline setting job j n seen) (record { num = windowStart job n + job .k * job .t; den = 1 }))
+            → Away n (cond b (virtualDeadline setting job j n seen) (record { num = windowEnd job n; den = 1 }))
             (cond b (virtualAway setting q) (windowAway q))
         go true =
             let m′ : ℕ = owedOf setting q in
@@ -144,18 +165,7 @@ module _
                   rw (← owed-told, ← left-told)
                   (omega (arith, difference-parts (windowLeft q) (q .at .e * m′), ap (_* m′) begins));
             }
-        go false =
-            record {
-              same-den = refl;
-              shifted = rw left-told (omega (arith, told .e-is, gone, mod-le n (job .k * job .t), split, parts));
-            }
-          where
-            -- k'T and the periods before this one make the window
-            parts : (job .k - periodsBegun job n + 1) * job .t + n % (job .k * job .t) / job .t * job .t ≡ job .k * job .t
-            parts =
-                let high = begun-high (job .t) (job .k) n (sound .t .low) (sound .k .low) in
-                let all : job .k - periodsBegun job n + 1 + n % (job .k * job .t) / job .t ≡ job .k = omega arith in
-                omega (arith, ap (_* job .t) all)
+        go false = record { same-den = refl; shifted = omega (arith, ends-away) }
 
     -- 'whose virtual deadline .. is at most the slot number + 1'
     pub overdue-told :

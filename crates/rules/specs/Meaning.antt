@@ -3,7 +3,7 @@
 use Prim.Native.Nat.{ℕ, zero, suc, _+_, _/_, _%_, _^_, _≤_, _<_}
 use mathlib.Core.Path.{_≡_}
 use mathlib.Core.Logic.{_↔_}
-use mathlib.Core.Bool.{true, cond}
+use mathlib.Core.Bool.{true, false, cond}
 use mathlib.Core.List.{List}
 use lib.Dec.{eqb, ltb}
 use lib.ListN.{length, getD, take, drop}
@@ -26,7 +26,8 @@ use Rattle.run.specs.Promise.{StartPromise, StepPromise}
 use Rattle.run.specs.Calls.{Run, bytesOf}
 use Rattle.place.specs.Meaning.{placeOfZeros}
 use Rattle.run.specs.SlotMeaning.{howMany}
-use Rattle.rules.specs.Rules.{slotsOf, sinceWindow, periodStart, periodsBegun, finishedIn, jobOf, Picks, Idles, Follows, tagged, firstTags, endsShort, countIn, idleByte}
+use Rattle.run.specs.Best.{Best, None}
+use Rattle.rules.specs.Rules.{slotsOf, sinceWindow, periodStart, periodsBegun, finishedIn, jobOf, dueAt, soonerAt, Picks, Idles, Follows, tagged, firstTags, endsShort, countIn, idleByte}
 
 -- slot n of a list of choices is answered as the rules say: the choice, and the two sets, where bit j of a mask is job j
 pub record SlotTold (l : JobList) (setting : Setting) (bytes : List ℕ) (n : ℕ) (slot : Slot) : Type 0 where
@@ -85,6 +86,20 @@ OnlyRun =
     (l : JobList) (setting : Setting) → SoundList l → Allowed setting → (slots : List Slot) (state : State)
     → Run l setting slots state → (bytes : List ℕ) → length bytes ≡ length slots → Follows l setting bytes
     → bytes ≡ bytesOf slots
+
+-- the choice by document 01 alone: 'Choose among the eligible jobs'; 'None eligible: the slot is idle.'
+pub data ChoosesDue (l : JobList) (setting : Setting) (n : ℕ) (seen : List ℕ) : ℕ → Type 0 where
+  due-picked : (j : ℕ) → Best (l .count) (dueAt l setting n seen) (soonerAt l setting n seen) j → ChoosesDue l setting n seen j
+  none-due : None (l .count) (dueAt l setting n seen) → ChoosesDue l setting n seen idleByte
+
+abbrev pub FollowsDue : JobList → Setting → List ℕ → Type 0
+FollowsDue l setting bytes = (n : ℕ) → n < length bytes → ChoosesDue l setting n (take n bytes) (getD bytes n idleByte)
+
+-- 'Off keeps all of 01's runs' (02, Item 1): with spare off the choices are those, and so is all that `RunTold` says of them
+abbrev pub OffKeeps : Type 0
+OffKeeps =
+    (l : JobList) (setting : Setting) → SoundList l → Allowed setting → setting .spare ≡ false → (slots : List Slot) (state : State)
+    → Run l setting slots state → (bytes : List ℕ) → length bytes ≡ length slots → FollowsDue l setting bytes ↔ (bytes ≡ bytesOf slots)
 
 -- a start of a sound list in an allowed setting passes; each step is done up to the clock's limit, and there refused by row 11
 abbrev pub RunStarts : Type 0

@@ -1,7 +1,6 @@
 -- The rules of a slot ('One slot, in order'), told by a list of jobs, a setting and the choices alone: no state, no counter, no search.
 use Prim.Native.Nat.{ℕ, _+_, _-_, _*_, _/_, _%_, _<_}
-use mathlib.Core.Path.{_≡_}
-use mathlib.Core.Bool.{Bool, true, false, _&&_, not, cond}
+use mathlib.Core.Bool.{Bool, _&&_, not, cond}
 use mathlib.Core.List.{List, [], _∷_}
 use lib.Dec.{leb, ltb, eqb}
 use lib.ListN.{length, getD, take, drop}
@@ -9,6 +8,7 @@ use Rattle.job.specs.declared.record.Job.{Job}
 use Rattle.job.specs.declared.list.JobList.{JobList}
 use Rattle.place.specs.declared.setting.Setting.{Setting}
 use Rattle.run.specs.SlotMeaning.{howMany}
+use Rattle.run.specs.Best.{None, Picked}
 
 -- how many of the bytes have a property
 unfoldable pub countIn : (ℕ → Bool) → List ℕ → ℕ
@@ -33,6 +33,9 @@ periodStart job n = n - n % job .t
 abbrev pub periodsBegun : Job → ℕ → ℕ
 periodsBegun job n = n % (job .k * job .t) / job .t + 1
 
+abbrev pub windowEnd : Job → ℕ → ℕ
+windowEnd job n = windowStart job n + job .k * job .t
+
 -- the bytes of that window among those seen
 abbrev pub sinceWindow : Job → ℕ → List ℕ → List ℕ
 sinceWindow job n seen = drop (windowStart job n) seen
@@ -51,10 +54,16 @@ sooner a b = ltb (a .num * b .den) (b .num * a .den)
 
 -- job number j in slot n, by the bytes seen: those before the slot, or its own too
 module _ (setting : Setting) (job : Job) (j n : ℕ) (seen : List ℕ) where
+  -- its slots of the window and of the period
+  abbrev pub ofWindow : ℕ
+  ofWindow = slotsOf j (sinceWindow job n seen)
+
+  abbrev pub ofPeriod : ℕ
+  ofPeriod = slotsOf j (drop (periodStart job n) seen)
+
   -- 'u divided by C, rounded down' (model 0, relaxed); the periods of the window with an instance finished (1, original)
   unfoldable pub finished : ℕ
-  finished =
-      cond (eqb (setting .model) 0) (slotsOf j (sinceWindow job n seen) / job .c) (finishedIn job j (sinceWindow job n seen) (job .k))
+  finished = cond (eqb (setting .model) 0) (ofWindow / job .c) (finishedIn job j (sinceWindow job n seen) (job .k))
 
   -- 'm' = m minus the instances finished in this window'
   abbrev pub owed : ℕ
@@ -63,9 +72,14 @@ module _ (setting : Setting) (job : Job) (j n : ℕ) (seen : List ℕ) where
   -- 'eligible exactly if u < m times C and u < p times C' (relaxed); 'exactly if s < m and v < C' (original)
   unfoldable pub due : Bool
   due =
-      let u = slotsOf j (sinceWindow job n seen) in
-      let v = slotsOf j (drop (periodStart job n) seen) in
-      cond (eqb (setting .model) 0) (ltb u (job .m * job .c) && ltb u (periodsBegun job n * job .c)) (ltb finished (job .m) && ltb v (job .c))
+      cond (eqb (setting .model) 0) (ltb ofWindow (job .m * job .c) && ltb ofWindow (periodsBegun job n * job .c))
+      (ltb finished (job .m) && ltb ofPeriod (job .c))
+
+  -- 'a job that has its m and still has an unserved instance come due', with spare on. 'Relaxed: u < pC; original: s < p and v < C.' (02, Item 1)
+  unfoldable pub takes : Bool
+  takes =
+      setting .spare && eqb owed 0
+      && cond (eqb (setting .model) 0) (ltb ofWindow (periodsBegun job n * job .c)) (ltb finished (periodsBegun job n) && ltb ofPeriod (job .c))
 
   -- 'period start + k'T/m' (equation 1 of 000)', where 'k' = k−p+1'
   abbrev pub virtualDeadline : Moment
@@ -73,7 +87,7 @@ module _ (setting : Setting) (job : Job) (j n : ℕ) (seen : List ℕ) where
 
   -- 'Order V: lowest virtual deadline' (order 0); 'Order W: soonest window end' (1)
   unfoldable pub deadline : Moment
-  deadline = cond (eqb (setting .order) 0) virtualDeadline (record { num = windowStart job n + job .k * job .t; den = 1 })
+  deadline = cond (eqb (setting .order) 0) virtualDeadline (record { num = windowEnd job n; den = 1 })
 
 -- 'A list of 1 to 16 jobs, numbered from 0'
 abbrev pub jobOf : JobList → ℕ → Job
@@ -87,16 +101,22 @@ module _ (l : JobList) (setting : Setting) (n : ℕ) (seen : List ℕ) where
   abbrev pub deadlineOf : ℕ → Moment
   deadlineOf j = deadline setting (jobOf l j) j n seen
 
-  -- 'Choose among the eligible jobs' .. 'Equal: the lower job number.'
-  pub record Picks (j : ℕ) : Type 0 where
-    pub listed : j < l .count
-    pub is-due : dueAt j ≡ true
-    pub none-sooner : (i : ℕ) → i < l .count → dueAt i ≡ true → sooner (deadlineOf i) (deadlineOf j) ≡ false
-    pub lower-later : (i : ℕ) → i < j → dueAt i ≡ true → sooner (deadlineOf j) (deadlineOf i) ≡ true
+  abbrev pub soonerAt : ℕ → ℕ → Bool
+  soonerAt i j = sooner (deadlineOf i) (deadlineOf j)
 
-  -- 'None eligible: the slot is idle.'
+  abbrev pub takesAt : ℕ → Bool
+  takesAt j = takes setting (jobOf l j) j n seen
+
+  abbrev pub endsAt : ℕ → ℕ → Bool
+  endsAt i j = ltb (windowEnd (jobOf l i) n) (windowEnd (jobOf l j) n)
+
+  -- 'Choose among the eligible jobs' .. 'Equal: the lower job number' (01); where none is due, who takes a spare slot (02, Item 1)
+  abbrev pub Picks : ℕ → Type 0
+  Picks = Picked (l .count) dueAt soonerAt takesAt endsAt
+
+  -- 'None eligible: the slot is idle', if none takes it
   abbrev pub Idles : Type 0
-  Idles = (i : ℕ) → i < l .count → dueAt i ≡ false
+  Idles = None (l .count) dueAt × None (l .count) takesAt
 
   pub data Chooses : ℕ → Type 0 where
     picked : (j : ℕ) → Picks j → Chooses j

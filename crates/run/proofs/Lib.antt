@@ -1,6 +1,7 @@
 -- Laws beside the functions' own proofs, each over the setting: never once for each order or model.
 pub mod HereLaws
 pub mod SlotLaws
+pub mod BestLaws
 pub mod ChoiceLaws
 pub mod MovingLaws
 pub mod KeepLaws

@@ -1,7 +1,7 @@
 -- One slot of a state in its ranges is as specs/SlotMeaning says it.
 use mathlib.Core.Path.{_≡_, refl, sym, ap, ap₂, _∙_}
 use mathlib.Core.Bool.{Bool, true, false, _&&_, not, cond}
-use mathlib.Core.Logic.{_↔_}
+use mathlib.Core.Logic.{_↔_, Iff·trans}
 use Prim.Native.Nat.{ℕ, _+_, _-_, _*_, _≤_, _<_}
 use native.Mathlib.Nat.{mul-le-mul-right}
 use native.Mathlib.Omega.{arith}
@@ -13,7 +13,7 @@ use Rattle.place.specs.declared.record.Place.{Place}
 use Rattle.place.specs.declared.inner.choice.Fraction.{Fraction}
 use Rattle.place.specs.Setting.{inOrderV}
 use Rattle.place.specs.Place.{windowLeft, leftOf, finishedOf, owedOf, eligibleOf, numeratorOf, overdueOf, tagsOf, firstTagged, withService, servedOf, givenOf, taggedOf, workedOf, windowEnds, shortOf, turnedOf, movedOf}
-use Rattle.place.specs.Choice.{candidateOf, virtualAway, windowAway, distanceOf, nearerOf, soonerOf, noPlace}
+use Rattle.place.specs.Choice.{roomOf, takesSpare, virtualAway, windowAway, dueAway, nearerOf, noPlace}
 use Rattle.place.specs.Sound.{SoundPlace}
 use Rattle.place.proofs.CounterLaws.{worked-ends, turned-on, turned-period, turned-window}
 use Rattle.place.proofs.SignedLaws.{difference-most}
@@ -25,9 +25,10 @@ use Rattle.run.specs.declared.answer.StepAnswer.the-variants.{Done}
 use Rattle.run.specs.Choice.{chosenOf}
 use Rattle.run.specs.Slot.{choiceOf, tagsAt, shortsAt, allMoved, turnOf}
 use Rattle.run.specs.Sound.{SoundState}
-use Rattle.run.specs.SlotMeaning.{left, periodCloses, isRelaxed, owed, due, sooner, late, served, onward, isGiven, placeOf, dueAt, Picks, Idles, given, firstTags, endsShort, SlotDone, StepsSlot}
+use Rattle.run.specs.SlotMeaning.{left, endsSooner, periodCloses, isRelaxed, owed, due, sooner, takes, late, served, onward, isGiven, placeOf, dueAt, takesAt, Picks, Idles, given, firstTags, endsShort, SlotDone, StepsSlot}
 use Rattle.run.proofs.HereLaws.{at, job-sound}
-use Rattle.run.proofs.ChoiceLaws.{NoCandidate, Chosen, given-idle, given-exactly, idle-exactly}
+use Rattle.run.proofs.BestLaws.{SameTest, SameOrder, picked-same, idle-same}
+use Rattle.run.proofs.ChoiceLaws.{NoCandidate, Chosen, given-idle, given-exactly, idle-exactly, eligibleAt, nearerAt, takesHere, endsHere, chosen-picked, none-picked}
 use Rattle.run.proofs.SlotLaws.{placed-length, placed-later, mask-exactly, count-is}
 use Rattle.run.proofs.KeepLaws.{turn-place}
 use Rattle.run.proofs.AnswerLaws.{step-one-to-one, state-done}
@@ -44,9 +45,13 @@ module _ (setting : Setting) (q : Place) where
   unfolding owedOf finishedOf owed
   owed-is = refl
 
-  due-is : candidateOf setting q ≡ due setting q
-  unfolding candidateOf eligibleOf due
+  due-is : eligibleOf setting q ≡ due setting q
+  unfolding eligibleOf due
   due-is = refl
+
+  takes-is : takesSpare setting q ≡ takes setting q
+  unfolding takesSpare roomOf owedOf finishedOf takes owed
+  takes-is = refl
 
   late-is : overdueOf setting q ≡ late setting q
   unfolding overdueOf numeratorOf late
@@ -80,17 +85,24 @@ fractions l l′ e e′ m m′ =
     (omega (arith, ap (_* m) (difference-parts l′ (e′ * m′))))
 
 wholes :
-    (l l′ e e′ : ℕ) → e ≤ l → e′ ≤ l′
-    → nearerOf (record { num = pos (l - e); den = 1 }) (record { num = pos (l′ - e′); den = 1 })
-    ≡ ltb (l + e′) (l′ + e)
-wholes l l′ e e′ h h′ =
-    let a : Fraction = record { num = pos (l - e); den = 1 } in
-    let b : Fraction = record { num = pos (l′ - e′); den = 1 } in
-    nearer-is a b ∙ ltb-shift (side a b) (side b a) (l + e′) (l′ + e) (e + e′) 0 (omega arith) (omega arith)
+    (l l′ : ℕ) → nearerOf (record { num = pos l; den = 1 }) (record { num = pos l′; den = 1 }) ≡ ltb l l′
+wholes l l′ =
+    let a : Fraction = record { num = pos l; den = 1 } in
+    let b : Fraction = record { num = pos l′; den = 1 } in
+    nearer-is a b ∙ ltb-shift (side a b) (side b a) l l′ 0 0 (omega arith) (omega arith)
+
+ends-is :
+    (setting : Setting) (q r : Place) → SoundPlace setting q → SoundPlace setting r → ltb (leftOf q) (leftOf r) ≡ endsSooner q r
+unfolding leftOf windowLeft
+ends-is setting q r sound-q sound-r =
+    let h = gone-high setting q sound-q in
+    let g = gone-high setting r sound-r in
+    ltb-shift (leftOf q) (leftOf r) (left q + r .at .e) (left r + q .at .e) (q .at .e + r .at .e) 0 (omega arith) (omega arith)
 
 sooner-is :
-    (setting : Setting) (q r : Place) → SoundPlace setting q → SoundPlace setting r → soonerOf setting q r ≡ sooner setting q r
-unfolding soonerOf distanceOf numeratorOf sooner owedOf finishedOf owed leftOf windowLeft
+    (setting : Setting) (q r : Place) → SoundPlace setting q → SoundPlace setting r
+    → nearerOf (dueAway setting q) (dueAway setting r) ≡ sooner setting q r
+unfolding dueAway numeratorOf sooner owedOf finishedOf owed windowLeft
 sooner-is setting q r sound-q sound-r = go (inOrderV setting)
   where
     go :
@@ -98,44 +110,30 @@ sooner-is setting q r sound-q sound-r = go (inOrderV setting)
         → nearerOf
         (cond t (virtualAway setting q) (windowAway q)) (cond t (virtualAway setting r) (windowAway r))
         ≡ cond t (ltb ((left q + r .at .e * owed setting q) * owed setting r) ((left r + q .at .e * owed setting r) * owed setting q))
-        (ltb (left q + r .at .e) (left r + q .at .e))
+        (endsSooner q r)
     go true = fractions (left q) (left r) (q .at .e) (r .at .e) (owed setting q) (owed setting r)
-    go false =
-        wholes (left q) (left r) (q .at .e) (r .at .e) (gone-high setting q sound-q) (gone-high setting r sound-r)
+    go false = wholes (leftOf q) (leftOf r) ∙ ends-is setting q r sound-q sound-r
 
 -- the choice
 
 module _ (s : State) (sound : SoundState s) where
-  sooner-at :
-      (i j : ℕ) → i < s .count → j < s .count
-      → soonerOf (s .setting) (at s i) (at s j) ≡ sooner (s .setting) (placeOf s i) (placeOf s j)
+  sooner-at : SameOrder (s .count) (nearerAt s) (λ i j. sooner (s .setting) (placeOf s i) (placeOf s j))
   sooner-at i j h g = sooner-is (s .setting) (at s i) (at s j) (job-sound sound i h) (job-sound sound j g)
 
-  due-at : (i : ℕ) → candidateOf (s .setting) (at s i) ≡ dueAt s i
-  due-at i = due-is (s .setting) (at s i)
+  ends-at : SameOrder (s .count) (endsHere s) (λ i j. endsSooner (placeOf s i) (placeOf s j))
+  ends-at i j h g = ends-is (s .setting) (at s i) (at s j) (job-sound sound i h) (job-sound sound j g)
+
+  due-at : SameTest (s .count) (eligibleAt s) (dueAt s)
+  due-at i h = due-is (s .setting) (at s i)
+
+  takes-at : SameTest (s .count) (takesHere s) (takesAt s)
+  takes-at i h = takes-is (s .setting) (at s i)
 
   chosen-picks : (j : ℕ) → Chosen s j ↔ Picks s j
-  chosen-picks j = (
-    λ c.
-        record {
-          listed = c .listed;
-          is-due = sym (due-at j) ∙ c .is-candidate;
-          none-sooner = λ i h due. sym (sooner-at i j h (c .listed)) ∙ c .none-sooner i h (due-at i ∙ due);
-          lower-later =
-              λ i h due. sym (sooner-at j i (c .listed) (omega (arith, c .listed))) ∙ c .lower-later i h (due-at i ∙ due);
-        },
-    λ p.
-        record {
-          listed = p .listed;
-          is-candidate = due-at j ∙ p .is-due;
-          none-sooner = λ i h is. sooner-at i j h (p .listed) ∙ p .none-sooner i h (sym (due-at i) ∙ is);
-          lower-later =
-              λ i h is. sooner-at j i (p .listed) (omega (arith, p .listed)) ∙ p .lower-later i h (sym (due-at i) ∙ is);
-        },
-  )
+  chosen-picks j = Iff·trans (chosen-picked s sound j) (picked-same due-at sooner-at takes-at ends-at j)
 
   none-idles : NoCandidate s ↔ Idles s
-  none-idles = (λ none i h. sym (due-at i) ∙ none i h, λ idles i h. due-at i ∙ idles i h)
+  none-idles = Iff·trans (none-picked s sound) (idle-same due-at sooner-at takes-at ends-at)
 
 -- the place after the slot, and the two sets
 

@@ -99,6 +99,7 @@ all-zeros =
     record {
       order = refl;
       model = refl;
+      spare = refl;
       clock = refl;
       count = refl;
       places-long = refl;

@@ -56,7 +56,7 @@ module _ (s : State) (sound : SoundState s) where
       go false e =
           let given : turnOf s .slot .choice ≡ Given (chosenOf s) = rw e in
           let chosen : Chosen s (chosenOf s) = given-exactly s sound (chosenOf s) .0 given in
-          rw e (names refl (chosen .listed) (chosen .is-candidate))
+          rw e (names refl (chosen .listed) (chosen .may-be))
 
   pub byte-given : ltb (nextByte s) (s .count) ≡ not (eqb (chosenOf s) noPlace)
   byte-given = go byte-view

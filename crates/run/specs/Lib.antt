@@ -9,5 +9,6 @@ pub mod Step
 pub mod Run
 pub mod Promise
 pub mod Calls
+pub mod Best
 pub mod Meaning
 pub mod SlotMeaning

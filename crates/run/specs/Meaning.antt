@@ -2,7 +2,7 @@
 -- allow. What the slots of a run are stands in the crate `rules`. Each statement is proved in proofs/, under its name.
 use mathlib.Core.Path.{_≡_}
 use mathlib.Core.Logic.{_↔_}
-use mathlib.Core.Bool.{Bool, true}
+use mathlib.Core.Bool.{Bool, true, false}
 use mathlib.Core.List.{[]}
 use Prim.Native.Nat.{ℕ, _≤_, _<_}
 use lib.ListN.{length, getD}
@@ -39,6 +39,7 @@ RangeAnswers = (s : State) (r : Bool) → InRangePromise s r → (r ≡ true) �
 pub record AllZeros (s : State) : Type 0 where
   pub order : s .setting .order ≡ 0
   pub model : s .setting .model ≡ 0
+  pub spare : s .setting .spare ≡ false
   pub clock : s .clock ≡ 0
   pub count : s .count ≡ 0
   pub places-long : length (s .places) ≡ countMost

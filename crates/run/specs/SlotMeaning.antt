@@ -18,6 +18,7 @@ use Rattle.run.specs.declared.answer.StepAnswer.the-variants.{Done}
 use Rattle.run.specs.declared.answer.Stepped.{Stepped}
 use Rattle.run.specs.State.{clockMost}
 use Rattle.run.specs.Sound.{SoundState}
+use Rattle.run.specs.Best.{None, Picked}
 use Rattle.run.specs.Promise.{StepPromise}
 
 -- how many of the numbers below n have a property
@@ -28,6 +29,10 @@ howMany f (suc n) = cond (f n) (howMany f n + 1) (howMany f n)
 -- k'T, where 'k' = k−p+1': the slots from the start of the period to the end of the window
 abbrev pub left : Place → ℕ
 left q = (q .job .k - q .at .p + 1) * q .job .t
+
+-- the window of q ends before that of r, k'T − e slots away; again from the moment that lies both e's before now
+abbrev pub endsSooner : Place → Place → Bool
+endsSooner q r = ltb (left q + r .at .e) (left r + q .at .e)
 
 -- 'Where e reaches T the period ends; where the k-th period ends, the window ends.'
 abbrev pub periodCloses : Place → Bool
@@ -57,7 +62,13 @@ module _ (setting : Setting) where
   sooner q r =
       cond (eqb (setting .order) 0)
       (ltb ((left q + r .at .e * owed q) * owed r) ((left r + q .at .e * owed r) * owed q))
-      (ltb (left q + r .at .e) (left r + q .at .e))
+      (endsSooner q r)
+
+  -- 'a job that has its m and still has an unserved instance come due', with spare on. 'Relaxed: u < pC; original: s < p and v < C.' (02, Item 1)
+  unfoldable pub takes : Place → Bool
+  takes q =
+      setting .spare && eqb (owed q) 0
+      && cond isRelaxed (ltb (q .at .u) (q .at .p * q .job .c)) (ltb (q .at .s) (q .at .p) && ltb (q .at .v) (q .job .c))
 
   -- 'm' > 0 before the slot and whose virtual deadline, from the values before the slot, is at most the slot number + 1'
   unfoldable pub late : Place → Bool
@@ -93,16 +104,17 @@ module _ (s : State) where
   abbrev pub dueAt : ℕ → Bool
   dueAt j = due (s .setting) (placeOf j)
 
-  -- 'Choose among the eligible jobs' .. 'Equal: the lower job number.'
-  pub record Picks (j : ℕ) : Type 0 where
-    pub listed : j < s .count
-    pub is-due : dueAt j ≡ true
-    pub none-sooner : (i : ℕ) → i < s .count → dueAt i ≡ true → sooner (s .setting) (placeOf i) (placeOf j) ≡ false
-    pub lower-later : (i : ℕ) → i < j → dueAt i ≡ true → sooner (s .setting) (placeOf j) (placeOf i) ≡ true
+  abbrev pub takesAt : ℕ → Bool
+  takesAt j = takes (s .setting) (placeOf j)
 
-  -- 'None eligible: the slot is idle.'
+  -- 'Choose among the eligible jobs' .. 'Equal: the lower job number.' Else, with spare on, who takes a spare slot, by the ends of the windows
+  abbrev pub Picks : ℕ → Type 0
+  Picks =
+      Picked (s .count) dueAt (λ i j. sooner (s .setting) (placeOf i) (placeOf j)) takesAt (λ i j. endsSooner (placeOf i) (placeOf j))
+
+  -- 'None eligible: the slot is idle', if none takes it
   abbrev pub Idles : Type 0
-  Idles = (i : ℕ) → i < s .count → dueAt i ≡ false
+  Idles = None (s .count) dueAt × None (s .count) takesAt
 
   -- 'the set of jobs first tagged in their window and the set whose window ended short', 'exactly if it ends with m' > 0'
   module _ (choice : Choice) (j : ℕ) where

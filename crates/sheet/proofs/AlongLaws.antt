@@ -13,9 +13,8 @@ use Rattle.sheet.specs.Form.{bytesMost}
 use Rattle.sheet.specs.Sheet.{sheetTold}
 use Rattle.sheet.specs.Reader.{byteAt, startReader, SoundReader, ownByte, fitsOf, pushedOf, jobEndedOf, storedOf, advancedOf, betweenLines, readerUpto, fitsUpto}
 use Rattle.sheet.specs.Answer.{lastReader, readTold, readSheet}
-use Rattle.job.proofs.TestLaws.{clash}
+use Rattle.job.proofs.TestLaws.{refuted, clash}
 use Rattle.place.proofs.CondLaws.{by-test}
-use Rattle.sheet.proofs.ByteLaws.{refuted}
 use Rattle.sheet.proofs.HoldsLaws.{holds-sound}
 use Rattle.sheet.proofs.UptoLaws.{upto-holds, formFits, formed-fits, Stop, place-is}
 use Rattle.sheet.proofs.ReadLaws.{read-formed, read-formless, passed-sheet}
@@ -29,19 +28,20 @@ module _ (r : Reader) where
   unfolding jobEndedOf pushedOf
   job-ended-count = omega arith
 
-  stored-count : OneMore (storedOf r)
+  stored-count : (b : ℕ) → OneMore (storedOf r b)
   unfolding storedOf
-  stored-count =
+  stored-count b =
       by-test OneMore (eqb (r .field) 0) (λ e. omega arith)
       (λ e. by-test OneMore (eqb (r .field) 1) (λ e. omega arith)
       (λ e. by-test OneMore (eqb (r .field) 2) (λ e. omega arith)
       (λ e. by-test OneMore (eqb (r .field) 3) (λ e. omega arith)
       (λ e. by-test OneMore (eqb (r .field) 4) (λ e. omega arith)
-      (λ e. by-test OneMore (eqb (r .field) 5) (λ e. omega arith) (λ e. job-ended-count))))))
+      (λ e. by-test OneMore (eqb (r .field) 5) (λ e. omega arith)
+      (λ e. by-test OneMore (eqb (r .field) 7) (λ e. omega arith) (λ e. job-ended-count)))))))
 
   advanced-count : (b : ℕ) → OneMore (advancedOf r b)
   unfolding advancedOf
-  advanced-count b = by-test OneMore (ownByte r b) (λ e. omega arith) (λ e. stored-count)
+  advanced-count b = by-test OneMore (ownByte r b) (λ e. omega arith) (λ e. stored-count b)
 
 module _ (bytes : List ℕ) where
   count-upto : (n : ℕ) → readerUpto bytes n .sheet .list .count ≤ n

@@ -7,41 +7,44 @@ use Prim.Native.Nat.{ℕ, zero, suc, _+_, _-_, _≤_, _<_}
 use native.Mathlib.Decide.{decLt}
 use native.Mathlib.Omega.{arith}
 use lib.Dec.{eqb}
-use borrow.Author.Tests.{eq-eqb, ne-eqb}
+use borrow.Author.Tests.{eq-eqb, lt-ltb, le-ltb}
 use Rattle.job.specs.declared.record.Job.{Job}
 use Rattle.sheet.specs.declared.reading.Sheet.{Sheet}
 use Rattle.sheet.specs.declared.reader.Reader.{Reader}
 use Rattle.sheet.specs.Form.{Begins}
-use Rattle.sheet.specs.Reader.{ownByte, endByte, jobEndedOf, storedOf, advancedOf}
-use Rattle.sheet.proofs.ByteLaws.{readerAt, letter-own, number-own, own-fits, own-leaves, end-fits, end-leaves}
+use Rattle.sheet.specs.Reader.{letterField, ownByte, endByte, jobEndedOf, nextField, storedOf, advancedOf}
+use Rattle.sheet.proofs.ByteLaws.{readerAt, letter-own, number-own, usual-ends, own-fits, own-leaves, end-fits, end-leaves}
 use Rattle.sheet.proofs.HoldsLaws.{Holds, holds-more, holds-sheet}
 
--- a field of which nothing is read has a byte of its own: V, R or 0
+-- a field of which nothing is read has a byte of its own: V, R, S or 0
 filled : (r : Reader) → r .digits ≡ 0 → (b : ℕ) × (ownByte r b ≡ true)
-filled r first = go (decLt (r .field) 2)
+filled r first = go (letterField (r .field)) refl
   where
-    firstLetter : Bool → ℕ
-    firstLetter order = cond order 86 82
+    firstLetter : Bool → Bool → ℕ
+    firstLetter order model = cond order 86 (cond model 82 83)
 
-    letter-fits : (order : Bool) → cond order (eqb (firstLetter order) 86 || eqb (firstLetter order) 87) (eqb (firstLetter order) 82 || eqb (firstLetter order) 79) ≡ true
-    letter-fits true = refl
-    letter-fits false = refl
+    letter-fits :
+        (order model : Bool)
+        → let b = firstLetter order model in cond order (eqb b 86 || eqb b 87) (cond model (eqb b 82 || eqb b 79) (eqb b 83)) ≡ true
+    letter-fits true model = refl
+    letter-fits false true = refl
+    letter-fits false false = refl
 
-    go : Dec (r .field < 2) → (b : ℕ) × (ownByte r b ≡ true)
-    go (yes letter) =
-        let b = firstLetter (eqb (r .field) 0) in (b, letter-own r b letter first (letter-fits (eqb (r .field) 0)))
-    go (no number) = (48, number-own r 48 (omega arith) (record { low = omega arith; high = omega arith; room = inl first }))
+    go : (letter : Bool) → letterField (r .field) ≡ letter → (b : ℕ) × (ownByte r b ≡ true)
+    go true letter =
+        let order = eqb (r .field) 0 in
+        let model = eqb (r .field) 1 in
+        let b = firstLetter order model in
+        (b, letter-own r b letter first (letter-fits order model))
+    go false number = (48, number-own r 48 number (record { low = omega arith; high = omega arith; room = inl first }))
 
--- the field after this one
-nextField : ℕ → ℕ
-nextField field = cond (eqb field 6) 3 (field + 1)
-
+-- the field after this one, where its usual byte ends it
 record Next (field : ℕ) (r : Reader) : Type 0 where
   pub field-is : r .field ≡ nextField field
   pub digits-none : r .digits ≡ 0
 
-stored-next : (field digits value : ℕ) (job : Job) (sheet : Sheet) → field ≤ 6 → Next field (storedOf (readerAt field digits value job sheet))
-unfolding nextField storedOf jobEndedOf
+stored-next : (field digits value : ℕ) (job : Job) (sheet : Sheet) → field ≤ 7 → Next field (storedOf (readerAt field digits value job sheet) (endByte field))
+unfolding storedOf jobEndedOf
 stored-next zero digits value job sheet high = record { field-is = refl; digits-none = refl }
 stored-next (suc zero) digits value job sheet high = record { field-is = refl; digits-none = refl }
 stored-next (suc (suc zero)) digits value job sheet high = record { field-is = refl; digits-none = refl }
@@ -49,7 +52,8 @@ stored-next (suc (suc (suc zero))) digits value job sheet high = record { field-
 stored-next (suc (suc (suc (suc zero)))) digits value job sheet high = record { field-is = refl; digits-none = refl }
 stored-next (suc (suc (suc (suc (suc zero))))) digits value job sheet high = record { field-is = refl; digits-none = refl }
 stored-next (suc (suc (suc (suc (suc (suc zero)))))) digits value job sheet high = record { field-is = refl; digits-none = refl }
-stored-next (suc (suc (suc (suc (suc (suc (suc field))))))) digits value job sheet high = absurd (omega arith)
+stored-next (suc (suc (suc (suc (suc (suc (suc zero))))))) digits value job sheet high = record { field-is = refl; digits-none = refl }
+stored-next (suc (suc (suc (suc (suc (suc (suc (suc field)))))))) digits value job sheet high = absurd (omega arith)
 
 -- the bytes go on to where the field has ended
 record Ended (bytes : List ℕ) (field : ℕ) : Type 0 where
@@ -61,11 +65,12 @@ record Ended (bytes : List ℕ) (field : ℕ) : Type 0 where
 ended : {bytes : List ℕ} {r : Reader} → Holds bytes r → 0 < r .digits → Ended bytes (r .field)
 ended {bytes} {r} holds more =
     let b = endByte (r .field) in
+    let ends = usual-ends (r .field) in
     record {
       rest = b ∷ [];
       reader = advancedOf r b;
-      holds = holds-more holds b (end-fits r more);
-      next = rw (end-leaves r more) (stored-next (r .field) (r .digits) (r .value) (r .job) (r .sheet) (holds .field-high));
+      holds = holds-more holds b (end-fits r b more ends);
+      next = rw (end-leaves r b more ends) (stored-next (r .field) (r .digits) (r .value) (r .job) (r .sheet) (holds .field-high));
     }
 
 field-ends : {bytes : List ℕ} {r : Reader} → Holds bytes r → Ended bytes (r .field)
@@ -86,16 +91,14 @@ field-ends {bytes} {r} holds = go (decLt 0 (r .digits))
 
 -- n fields further is the last of the line
 abbrev LastAfter : ℕ → ℕ → Type 0
-LastAfter n field = (field + n ≡ 2) ⊎ ((3 ≤ field) × (field + n ≡ 6))
+LastAfter n field = (field + n ≡ 2) ⊎ ((3 ≤ field) × (n ≡ 6 - field))
 
 next-later : (field : ℕ) → field < 6 → nextField field ≡ field + 1
-unfolding nextField
-next-later field h = rw (ne-eqb field 6 (omega arith))
+next-later field h = rw (le-ltb 5 field (omega arith))
 
 last-now : {field : ℕ} → LastAfter 0 field → nextField field ≡ 3
-unfolding nextField
 last-now {field} (inl e) = let two : field ≡ 2 = omega arith in rw two
-last-now {field} (inr e) = let six : field ≡ 6 = omega arith in rw six
+last-now {field} (inr e) = rw (lt-ltb 5 field (omega arith))
 
 last-later : (n field : ℕ) → LastAfter (suc n) field → LastAfter n (nextField field)
 last-later n field (inl e) = rw (next-later field (omega arith)) (inl (omega arith))
@@ -123,4 +126,4 @@ holds-begins {bytes} {r} holds = go (decLt (r .field) 3)
   where
     go : Dec (r .field < 3) → Begins bytes
     go (yes first) = line-ends (2 - r .field) holds (inl (omega arith))
-    go (no job) = line-ends (6 - r .field) holds (inr (omega arith, omega (arith, holds .field-high)))
+    go (no job) = line-ends (6 - r .field) holds (inr (omega arith, refl))

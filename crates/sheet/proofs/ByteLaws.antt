@@ -4,28 +4,19 @@ use mathlib.Core.Bool.{Bool, true, false, _&&_, _||_, cond, or-true}
 use mathlib.Core.Logic.{_⊎_, inl, inr}
 use Prim.Native.Nat.{ℕ, _+_, _-_, _*_, _^_, _≤_, _<_}
 use native.Mathlib.Nat.{pow-le-pow-right}
-use native.Mathlib.Decide.{decLt}
 use native.Mathlib.Omega.{arith}
 use lib.Dec.{leb, ltb, eqb}
-use borrow.Author.Tests.{ltb-true, leb-true, eqb-true, lt-ltb, le-ltb, le-leb, eq-eqb}
+use borrow.Author.Tests.{ltb-true, leb-true, eqb-true, lt-ltb, le-leb, eq-eqb}
 use Rattle.job.specs.declared.record.Job.{Job}
 use Rattle.sheet.specs.declared.reading.Sheet.{Sheet}
 use Rattle.sheet.specs.declared.reader.Reader.{Reader}
-use Rattle.sheet.specs.Reader.{SoundReader, letterFits, digitFits, ownByte, endByte, fitsOf, valueAfter, storedOf, advancedOf}
-use Rattle.job.proofs.TestLaws.{both}
+use Rattle.sheet.specs.Reader.{SoundReader, letterField, letterFits, digitFits, ownByte, endByte, spareNext, endsField, fitsOf, valueAfter, storedOf, advancedOf}
+use Rattle.job.proofs.TestLaws.{refuted, both, either}
 use Rattle.place.proofs.CondLaws.{by-test}
 
 abbrev pub readerAt : ℕ → ℕ → ℕ → Job → Sheet → Reader
 readerAt field digits value job sheet =
     record { field = field; digits = digits; value = value; job = job; sheet = sheet }
-
-pub either : (a b : Bool) → (a || b) ≡ true → (a ≡ true) ⊎ (b ≡ true)
-either true b e = inl refl
-either false b e = inr e
-
-pub refuted : {b : Bool} → (b ≡ true → ⊥) → b ≡ false
-refuted {b = true} never = absurd (never refl)
-refuted {b = false} never = refl
 
 -- '0 or up to 5 digits with no leading zero': one more digit may come
 pub record DigitNext (digits value b : ℕ) : Type 0 where
@@ -60,10 +51,10 @@ fits-digit digits value b e =
 
 -- a field's own bytes, for a letter and for a number
 module _ (r : Reader) (b : ℕ) where
-  module _ (letter : r .field < 2) where
+  module _ (letter : letterField (r .field) ≡ true) where
     pub own-is-letter : ownByte r b ≡ (eqb (r .digits) 0 && letterFits (r .field) b)
     unfolding ownByte
-    own-is-letter = simp (lt-ltb (r .field) 2 letter)
+    own-is-letter = rw letter
 
     pub letter-own : r .digits ≡ 0 → letterFits (r .field) b ≡ true → ownByte r b ≡ true
     letter-own first fits = own-is-letter ∙ rw (eq-eqb (r .digits) 0 first) fits
@@ -75,12 +66,12 @@ module _ (r : Reader) (b : ℕ) where
 
     pub letter-value : valueAfter r b ≡ cond (eqb b 87 || eqb b 79) 1 0
     unfolding valueAfter
-    letter-value = simp (lt-ltb (r .field) 2 letter)
+    letter-value = rw letter
 
-  module _ (number : 2 ≤ r .field) where
+  module _ (number : letterField (r .field) ≡ false) where
     pub own-is-digit : ownByte r b ≡ digitFits (r .digits) (r .value) b
     unfolding ownByte
-    own-is-digit = simp (le-ltb (r .field) 2 number)
+    own-is-digit = rw number
 
     pub number-own : DigitNext (r .digits) (r .value) b → ownByte r b ≡ true
     number-own n = own-is-digit ∙ digit-fits (r .digits) (r .value) b n
@@ -90,44 +81,50 @@ module _ (r : Reader) (b : ℕ) where
 
     pub number-value : valueAfter r b ≡ r .value * 10 + (b - 48)
     unfolding valueAfter
-    number-value = simp (le-ltb (r .field) 2 number)
+    number-value = rw number
 
 -- the byte that ends a field is none of its own
-end-low : (field : ℕ) → endByte field < 48
-end-low field = by-test (λ (b : ℕ). b < 48) (eqb field 2 || eqb field 6) (λ e. omega arith) (λ e. omega arith)
+pub usual-ends : (field : ℕ) → endsField field (endByte field) ≡ true
+usual-ends field = rw (eq-eqb (endByte field) (endByte field) refl, or-true)
 
-end-not-own : (r : Reader) → 0 < r .digits → ownByte r (endByte (r .field)) ≡ false
-end-not-own r some = refuted (never (decLt (r .field) 2))
+end-low : (field b : ℕ) → endsField field b ≡ true → b < 48
+end-low field b ends = go (either (spareNext field b) (eqb b (endByte field)) ends)
   where
-    never : Dec (r .field < 2) → ownByte r (endByte (r .field)) ≡ true → ⊥
-    never (yes letter) e = let first = own-letter r (endByte (r .field)) letter e .0 in omega arith
-    never (no number) e =
-        let digit = own-number r (endByte (r .field)) (omega arith) e in omega (arith, end-low (r .field))
+    go : (spareNext field b ≡ true) ⊎ (eqb b (endByte field) ≡ true) → b < 48
+    go (inl spare) = omega (arith, eqb-true b 32 (both (eqb field 2) (eqb b 32) spare .1))
+    go (inr usual) =
+        rw (eqb-true b (endByte field) usual)
+        (by-test (λ (e : ℕ). e < 48) (eqb field 2 || ltb 5 field) (λ e. omega arith) (λ e. omega arith))
+
+end-not-own : (r : Reader) (b : ℕ) → 0 < r .digits → endsField (r .field) b ≡ true → ownByte r b ≡ false
+end-not-own r b some ends = refuted (never (letterField (r .field)) refl)
+  where
+    never : (letter : Bool) → letterField (r .field) ≡ letter → ownByte r b ≡ true → ⊥
+    never true letter e = let first = own-letter r b letter e .0 in omega arith
+    never false number e = let digit = own-number r b number e in omega (arith, end-low (r .field) b ends)
 
 -- a byte that fits is one of the field's own, or ends it
 pub data Fitting (r : Reader) (b : ℕ) : Type 0 where
   own : ownByte r b ≡ true → Fitting r b
-  end : 0 < r .digits → b ≡ endByte (r .field) → Fitting r b
+  end : 0 < r .digits → endsField (r .field) b ≡ true → Fitting r b
 
 pub fitting : (r : Reader) (b : ℕ) → fitsOf r b ≡ true → Fitting r b
 unfolding fitsOf
-fitting r b e = go (either (ownByte r b) (ltb 0 (r .digits) && eqb b (endByte (r .field))) e)
+fitting r b e = go (either (ownByte r b) (ltb 0 (r .digits) && endsField (r .field) b) e)
   where
-    go : (ownByte r b ≡ true) ⊎ ((ltb 0 (r .digits) && eqb b (endByte (r .field))) ≡ true) → Fitting r b
+    go : (ownByte r b ≡ true) ⊎ ((ltb 0 (r .digits) && endsField (r .field) b) ≡ true) → Fitting r b
     go (inl is) = own is
     go (inr is) =
-        let tests = both (ltb 0 (r .digits)) (eqb b (endByte (r .field))) is in
-        end (ltb-true 0 (r .digits) (tests .0)) (eqb-true b (endByte (r .field)) (tests .1))
+        let tests = both (ltb 0 (r .digits)) (endsField (r .field) b) is in
+        end (ltb-true 0 (r .digits) (tests .0)) (tests .1)
 
 pub own-fits : (r : Reader) (b : ℕ) → ownByte r b ≡ true → fitsOf r b ≡ true
 unfolding fitsOf
 own-fits r b e = rw e
 
-pub end-fits : (r : Reader) → 0 < r .digits → fitsOf r (endByte (r .field)) ≡ true
+pub end-fits : (r : Reader) (b : ℕ) → 0 < r .digits → endsField (r .field) b ≡ true → fitsOf r b ≡ true
 unfolding fitsOf
-end-fits r some =
-    simp
-    (end-not-own r some, lt-ltb 0 (r .digits) some, eq-eqb (endByte (r .field)) (endByte (r .field)) refl)
+end-fits r b some ends = rw (end-not-own r b some ends, lt-ltb 0 (r .digits) some, ends)
 
 -- what a byte of the field leaves, and what the byte that ends it leaves
 pub own-leaves :
@@ -135,12 +132,12 @@ pub own-leaves :
 unfolding advancedOf
 own-leaves r b e = rw e
 
-pub stored-leaves : (r : Reader) (b : ℕ) → ownByte r b ≡ false → advancedOf r b ≡ storedOf r
+pub stored-leaves : (r : Reader) (b : ℕ) → ownByte r b ≡ false → advancedOf r b ≡ storedOf r b
 unfolding advancedOf
 stored-leaves r b e = rw e
 
-pub end-leaves : (r : Reader) → 0 < r .digits → advancedOf r (endByte (r .field)) ≡ storedOf r
-end-leaves r some = stored-leaves r (endByte (r .field)) (end-not-own r some)
+pub end-leaves : (r : Reader) (b : ℕ) → 0 < r .digits → endsField (r .field) b ≡ true → advancedOf r b ≡ storedOf r b
+end-leaves r b some ends = stored-leaves r b (end-not-own r b some ends)
 
 -- a sound reader's value has at most five digits
 pub sound-value : (r : Reader) → SoundReader r → r .value < 100000

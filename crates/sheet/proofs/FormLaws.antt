@@ -1,6 +1,6 @@
 -- No text is two sheets: letters, numbers and lines are read off the front of the text one by one.
 use mathlib.Core.Path.{_≡_, refl, sym, _∙_, ap}
-use mathlib.Core.Bool.{cond}
+use mathlib.Core.Bool.{Bool, true, false, cond}
 use mathlib.Core.List.{List, [], _∷_, _++_, append-assoc, head-eq-of-cons-eq, tail-eq-of-cons-eq}
 use Prim.Native.Nat.{ℕ, zero, suc, _≤_, _<_}
 use native.Mathlib.Omega.{arith}
@@ -9,8 +9,7 @@ use lib.ListN.{length, length-append}
 use Rattle.job.specs.declared.record.Job.{Job}
 use Rattle.text.specs.Decimal.{decimalOf}
 use Rattle.place.specs.declared.setting.Setting.{Setting}
-use Rattle.place.specs.Setting.{settingOf}
-use Rattle.sheet.specs.Form.{numberMost, orderLetter, modelLetter, firstLine, jobLine, jobLines, SmallJob}
+use Rattle.sheet.specs.Form.{numberMost, orderLetter, modelLetter, spareEnd, firstLine, jobLine, jobLines, SmallJob}
 use Rattle.sheet.specs.Meaning.{TextDetermined, ValuesDetermined}
 use Rattle.text.proofs.DecimalLaws.{decimal-some, decimal-cut}
 use Rattle.sheet.proofs.HoldsLaws.{SmallJobs}
@@ -36,10 +35,22 @@ number-cut :
 number-cut x y hx hy ha e =
     let cut = decimal-cut x y (omega arith) (omega arith) ha ha e in (cut .0, tail-eq-of-cons-eq (cut .1))
 
+-- the slot count, and S or no S behind it
+slots-cut :
+    (x y : ℕ) (spare spare′ : Bool) {p q : List ℕ} → x ≤ numberMost → y ≤ numberMost
+    → decimalOf x ++ (spareEnd spare ++ p) ≡ decimalOf y ++ (spareEnd spare′ ++ q) → (x ≡ y) × (spare ≡ spare′) × (p ≡ q)
+slots-cut x y true true hx hy e =
+    let cut = number-cut x y hx hy (omega arith) e in (cut .0, refl, tail-eq-of-cons-eq (tail-eq-of-cons-eq (cut .1)))
+slots-cut x y false false hx hy e = let cut = number-cut x y hx hy (omega arith) e in (cut .0, refl, cut .1)
+slots-cut x y true false hx hy e =
+    absurd (omega (arith, head-eq-of-cons-eq (decimal-cut x y (omega arith) (omega arith) (omega arith) (omega arith) e .1)))
+slots-cut x y false true hx hy e =
+    absurd (omega (arith, head-eq-of-cons-eq (decimal-cut x y (omega arith) (omega arith) (omega arith) (omega arith) e .1)))
+
 -- a line
 first-line-text :
     (s : Setting) (slots : ℕ) (p : List ℕ)
-    → firstLine s slots ++ p ≡ orderLetter (s .order) ++ (32 ∷ (modelLetter (s .model) ++ (32 ∷ (decimalOf slots ++ (10 ∷ p)))))
+    → firstLine s slots ++ p ≡ orderLetter (s .order) ++ (32 ∷ (modelLetter (s .model) ++ (32 ∷ (decimalOf slots ++ (spareEnd (s .spare) ++ p)))))
 unfolding firstLine
 first-line-text s slots p = simp append-assoc
 
@@ -80,5 +91,5 @@ values-determined bytes s s′ slots slots′ jobs jobs′ is is′ =
     (sym (first-line-text s slots (jobLines jobs)) ∙ same ∙ first-line-text s′ slots′ (jobLines jobs′)) in
     let model =
     letter-cut 82 79 (λ e. omega arith) (s .model) (s′ .model) (is .model) (is′ .model) (tail-eq-of-cons-eq (order .1)) in
-    let count = number-cut slots slots′ (is .slots-small) (is′ .slots-small) (omega arith) (tail-eq-of-cons-eq (model .1)) in
-    (λ i. settingOf (order .0 i) (model .0 i), count .0, jobs-cut jobs jobs′ (is .jobs-small) (is′ .jobs-small) (count .1))
+    let count = slots-cut slots slots′ (s .spare) (s′ .spare) (is .slots-small) (is′ .slots-small) (tail-eq-of-cons-eq (model .1)) in
+    (λ i. record { order = order .0 i; model = model .0 i; spare = count .1 i }, count .0, jobs-cut jobs jobs′ (is .jobs-small) (is′ .jobs-small) (count .2))

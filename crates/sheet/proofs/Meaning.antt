@@ -17,7 +17,7 @@ use Rattle.job.specs.Told.{Told, row, passed}
 use Rattle.job.specs.Check.{listTold}
 use Rattle.job.specs.Filled.{emptyList}
 use Rattle.job.specs.Sound.{Within, SoundList, FaultOf, t-fault, c-fault, k-fault, m-fault, LowestFault}
-use Rattle.job.proofs.TestLaws.{clash}
+use Rattle.job.proofs.TestLaws.{refuted, clash}
 use Rattle.job.proofs.Meaning.{ListView, no-jobs, many-jobs, sound-list, faulty-list, list-view, passes-exactly, row-one-exactly as list-one, row-two-exactly as list-two, job-rows-exactly as list-jobs}
 use Rattle.place.specs.declared.setting.Setting.{Setting}
 use Rattle.sheet.specs.declared.reading.Sheet.{Sheet}
@@ -26,7 +26,6 @@ use Rattle.sheet.specs.Sheet.{blankSheet, sheetTold}
 use Rattle.sheet.specs.Reader.{placeUpto, sheetOf}
 use Rattle.sheet.specs.Answer.{readTold, readSheet}
 use Rattle.sheet.specs.Meaning.{StopsAt, Formed, Listed, ReadAnswer, passes, row-one, row-two, job-row, row-thirteen, row-sixteen, row-seventeen, Returned, AllZeros, BlankZeros, ReadTold, ReadsExactly}
-use Rattle.sheet.proofs.ByteLaws.{refuted}
 use Rattle.sheet.proofs.PushedLaws.{pushedAll, all-kept, pushed-told}
 use Rattle.sheet.proofs.UptoLaws.{fits-begins, begins-fits, last-sheet, formFits, fits-sheet, sheet-fits, formed-fits, Stop, place-stop, place-is}
 use Rattle.sheet.proofs.ReadLaws.{read-long, read-formed, read-formless, passed-sheet}
@@ -257,7 +256,7 @@ values-read bytes s slots jobs is e =
     })
 
 blank-is-zeros : AllZeros blankSheet
-blank-is-zeros = record { order = refl; model = refl; slots = refl; count = refl; jobs = refl }
+blank-is-zeros = record { order = refl; model = refl; spare = refl; slots = refl; count = refl; jobs = refl }
 
 refuses : {t : Told} → ReadAnswer t → ¬ (t ≡ passed) → eqb (t .number) 0 ≡ false
 refuses passes never = absurd (never refl)

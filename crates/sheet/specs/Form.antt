@@ -1,7 +1,7 @@
 -- The form of a sheet, as text that its values make, and the limits of a read: no reader is mentioned.
 use Prim.Native.Nat.{ℕ, _≤_, _<_}
 use mathlib.Core.Path.{_≡_}
-use mathlib.Core.Bool.{cond}
+use mathlib.Core.Bool.{Bool, cond}
 use mathlib.Core.List.{List, [], _∷_, _++_}
 use lib.Dec.{eqb}
 use lib.ListN.{length}
@@ -32,10 +32,14 @@ orderLetter order = cond (eqb order orderV) (ascii "V") (ascii "W")
 abbrev pub modelLetter : ℕ → List ℕ
 modelLetter model = cond (eqb model relaxed) (ascii "R") (ascii "O")
 
+-- 'Sheets gain an optional S after the slot count' (document 02, Item 1)
+abbrev pub spareEnd : Bool → List ℕ
+spareEnd spare = cond spare (ascii " S\n") (ascii "\n")
+
 -- 'Single spaces, each line ended by a line feed'
 unfoldable pub firstLine : Setting → ℕ → List ℕ
 firstLine s slots =
-    orderLetter (s .order) ++ (ascii " " ++ (modelLetter (s .model) ++ (ascii " " ++ (decimalOf slots ++ ascii "\n"))))
+    orderLetter (s .order) ++ (ascii " " ++ (modelLetter (s .model) ++ (ascii " " ++ (decimalOf slots ++ spareEnd (s .spare)))))
 
 -- 'a line per job, C T m k'
 unfoldable pub jobLine : Job → List ℕ

@@ -2,6 +2,7 @@
 -- under its name. Facts are of the bytes and of the values whose text they are (specs/Form): no reader is mentioned.
 use Prim.Native.Nat.{ℕ, _+_, _-_, _≤_, _<_}
 use mathlib.Core.Path.{_≡_}
+use mathlib.Core.Bool.{true, false}
 use mathlib.Core.Logic.{_↔_, _⊎_}
 use mathlib.Core.List.{List, [], _∷_, _++_}
 use lib.ListN.{length, take, replicate}
@@ -12,7 +13,7 @@ use Rattle.job.specs.Told.{Told, row, passed, toldChecked}
 use Rattle.job.specs.Sound.{Within, SoundList, LowestFault}
 use Rattle.text.specs.Ascii.{ascii}
 use Rattle.place.specs.declared.setting.Setting.{Setting}
-use Rattle.place.specs.Setting.{settingOf}
+use Rattle.place.specs.Setting.{settingOf, withSpare}
 use Rattle.sheet.specs.declared.reading.Sheet.{Sheet}
 use Rattle.sheet.specs.declared.reading.ReadSheet.{ReadSheet}
 use Rattle.sheet.specs.Form.{bytesMost, slotsMost, SheetOf, IsSheet, Begins, formList}
@@ -58,6 +59,7 @@ pub record Returned (sheet : Sheet) (s : Setting) (slots : ℕ) (jobs : List Job
 pub record AllZeros (sheet : Sheet) : Type 0 where
   pub order : sheet .setting .order ≡ 0
   pub model : sheet .setting .model ≡ 0
+  pub spare : sheet .setting .spare ≡ false
   pub slots : sheet .slots ≡ 0
   pub count : sheet .list .count ≡ 0
   pub jobs : sheet .list .jobs ≡ replicate countMost (job 0 0 0 0)
@@ -89,17 +91,26 @@ abbrev pub ReadsExactly : Type 0
 ReadsExactly = (bytes : List ℕ) (r : ReadSheet) → ReadPromise bytes r → ReadTold bytes (toldChecked (r .answer)) (r .sheet)
 
 -- document 01's own sheets, which hold specs/Form itself to the letter: case A's 'input lines `W R 6`, `1 2 1 2`, `1 3 2 2`'; B, 'same, V R';
--- D, 'W O'. 'Order 0 is V, 1 is W; model 0 is relaxed, 1 is original.'
-abbrev pub ReadsAs : List ℕ → ℕ → ℕ → ℕ → List Job → Type 0
-ReadsAs bytes order model slots jobs =
+-- D, 'W O'. 'Order 0 is V, 1 is W; model 0 is relaxed, 1 is original.' And case A with document 02's 'optional S'.
+abbrev pub ReadsAs : List ℕ → Setting → ℕ → List Job → Type 0
+ReadsAs bytes s slots jobs =
     (r : ReadSheet) → ReadPromise bytes r
-    → (toldChecked (r .answer) ≡ passed) × Returned (r .sheet) (settingOf order model) slots jobs
+    → (toldChecked (r .answer) ≡ passed) × Returned (r .sheet) s slots jobs
 
 abbrev pub CasesRead : Type 0
 CasesRead =
-    ReadsAs (ascii "W R 6\n1 2 1 2\n1 3 2 2\n") 1 0 6 (job 1 2 1 2 ∷ job 1 3 2 2 ∷ [])
-    × ReadsAs (ascii "V R 6\n1 2 1 2\n1 3 2 2\n") 0 0 6 (job 1 2 1 2 ∷ job 1 3 2 2 ∷ [])
-    × ReadsAs (ascii "W O 8\n2 4 1 1\n1 2 2 4\n") 1 1 8 (job 2 4 1 1 ∷ job 1 2 2 4 ∷ [])
+    ReadsAs (ascii "W R 6\n1 2 1 2\n1 3 2 2\n") (settingOf 1 0) 6 (job 1 2 1 2 ∷ job 1 3 2 2 ∷ [])
+    × ReadsAs (ascii "V R 6\n1 2 1 2\n1 3 2 2\n") (settingOf 0 0) 6 (job 1 2 1 2 ∷ job 1 3 2 2 ∷ [])
+    × ReadsAs (ascii "W O 8\n2 4 1 1\n1 2 2 4\n") (settingOf 1 1) 8 (job 2 4 1 1 ∷ job 1 2 2 4 ∷ [])
+    × ReadsAs (ascii "W R 6 S\n1 2 1 2\n1 3 2 2\n") (withSpare (settingOf 1 0) true) 6 (job 1 2 1 2 ∷ job 1 3 2 2 ∷ [])
+
+-- row 13's places about the S: a sheet that 'ends too soon' behind the space; a T there, and an S with no space before it, 'after which no sheet
+-- can continue'
+abbrev pub StopsReadAt : List ℕ → ℕ → Type 0
+StopsReadAt bytes place = (r : ReadSheet) → ReadPromise bytes r → toldChecked (r .answer) ≡ row 13 (place ∷ [])
+
+abbrev pub SpareStops : Type 0
+SpareStops = StopsReadAt (ascii "W R 6 ") 6 × StopsReadAt (ascii "W R 6 T") 6 × StopsReadAt (ascii "W R 6S") 5
 
 -- no two texts are the same sheet, and no text is two sheets
 abbrev pub TextDetermined : Type 0

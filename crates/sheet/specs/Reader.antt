@@ -9,7 +9,7 @@ use Rattle.job.specs.declared.list.JobList.{JobList}
 use Rattle.job.specs.Limit.{countMost}
 use Rattle.job.specs.Check.{noJob}
 use Rattle.place.specs.declared.setting.Setting.{Setting}
-use Rattle.place.specs.Setting.{withOrder, withModel}
+use Rattle.place.specs.Setting.{withOrder, withModel, withSpare}
 use Rattle.sheet.specs.declared.reading.Sheet.{Sheet}
 use Rattle.sheet.specs.declared.reader.Reader.{Reader}
 use Rattle.sheet.specs.Sheet.{blankSheet}
@@ -23,13 +23,17 @@ startReader = record { field = 0; digits = 0; value = 0; job = noJob; sheet = bl
 
 -- what holds of every reader along a sheet
 pub record SoundReader (r : Reader) : Type 0 where
-  pub field-high : r .field ≤ 6
   pub digits-high : r .digits ≤ 5
   pub value-high : r .value < 10 ^ r .digits
 
--- 86 V, 87 W; 82 R, 79 O
+-- the fields of one letter: the order, the model, and S
+abbrev pub letterField : ℕ → Bool
+letterField field = ltb field 2 || eqb field 7
+
+-- 86 V, 87 W; 82 R, 79 O; 83 S
 abbrev pub letterFits : ℕ → ℕ → Bool
-letterFits field b = cond (eqb field 0) (eqb b 86 || eqb b 87) (eqb b 82 || eqb b 79)
+letterFits field b =
+    cond (eqb field 0) (eqb b 86 || eqb b 87) (cond (eqb field 1) (eqb b 82 || eqb b 79) (eqb b 83))
 
 -- '0 or up to 5 digits with no leading zero'
 abbrev pub digitFits : ℕ → ℕ → ℕ → Bool
@@ -38,18 +42,25 @@ digitFits digits value b = leb 48 b && leb b 57 && (eqb digits 0 || (ltb 0 value
 -- a byte of the field itself
 unfoldable pub ownByte : Reader → ℕ → Bool
 ownByte r b =
-    cond (ltb (r .field) 2) (eqb (r .digits) 0 && letterFits (r .field) b) (digitFits (r .digits) (r .value) b)
+    cond (letterField (r .field)) (eqb (r .digits) 0 && letterFits (r .field) b) (digitFits (r .digits) (r .value) b)
 
--- a space, or the line feed after the slot count and after k
+-- a space, or the line feed after the slot count, k and S
 abbrev pub endByte : ℕ → ℕ
-endByte field = cond (eqb field 2 || eqb field 6) 10 32
+endByte field = cond (eqb field 2 || ltb 5 field) 10 32
+
+-- the space that ends a slot count: 'an optional S after the slot count' comes next
+abbrev pub spareNext : ℕ → ℕ → Bool
+spareNext field b = eqb field 2 && eqb b 32
+
+abbrev pub endsField : ℕ → ℕ → Bool
+endsField field b = spareNext field b || eqb b (endByte field)
 
 unfoldable pub fitsOf : Reader → ℕ → Bool
-fitsOf r b = ownByte r b || (ltb 0 (r .digits) && eqb b (endByte (r .field)))
+fitsOf r b = ownByte r b || (ltb 0 (r .digits) && endsField (r .field) b)
 
--- a letter is 0 or 1, as the setting has it; a digit is one more of the number
+-- a letter is 0 or 1, as the setting has it, and S is 0; a digit is one more of the number
 unfoldable pub valueAfter : Reader → ℕ → ℕ
-valueAfter r b = cond (ltb (r .field) 2) (cond (eqb b 87 || eqb b 79) 1 0) (r .value * 10 + (b - 48))
+valueAfter r b = cond (letterField (r .field)) (cond (eqb b 87 || eqb b 79) 1 0) (r .value * 10 + (b - 48))
 
 -- one job more; those past the sixteenth are counted and not kept
 unfoldable pub pushedOf : JobList → Job → JobList
@@ -74,26 +85,34 @@ jobEndedOf r =
     let whole = jobOf (j .c) (j .t) (j .m) (r .value) in
     withSheet 3 whole (sheetOf (s .setting) (s .slots) (pushedOf (s .list) whole))
 
--- an ended field: its value in its place, and the next field
-unfoldable pub storedOf : Reader → Reader
-storedOf r =
+-- the next field: a job's C after a line, and S where it is announced
+abbrev pub nextField : ℕ → ℕ
+nextField field = cond (ltb 5 field) 3 (field + 1)
+
+abbrev pub fieldAfter : ℕ → ℕ → ℕ
+fieldAfter field b = cond (spareNext field b) 7 (nextField field)
+
+-- a field that the byte ends: its value in its place, and the next field
+unfoldable pub storedOf : Reader → ℕ → Reader
+storedOf r b =
     let s = r .sheet in
     let j = r .job in
     let x = r .value in
-    let next = r .field + 1 in
+    let next = fieldAfter (r .field) b in
     cond (eqb (r .field) 0) (withSheet next j (sheetOf (withOrder (s .setting) x) (s .slots) (s .list)))
     (cond (eqb (r .field) 1) (withSheet next j (sheetOf (withModel (s .setting) x) (s .slots) (s .list)))
     (cond (eqb (r .field) 2) (withSheet next j (sheetOf (s .setting) x (s .list)))
     (cond (eqb (r .field) 3) (withSheet next (jobOf x (j .t) (j .m) (j .k)) s)
     (cond (eqb (r .field) 4) (withSheet next (jobOf (j .c) x (j .m) (j .k)) s)
     (cond (eqb (r .field) 5) (withSheet next (jobOf (j .c) (j .t) x (j .k)) s)
-    (jobEndedOf r))))))
+    (cond (eqb (r .field) 7) (withSheet next j (sheetOf (withSpare (s .setting) true) (s .slots) (s .list)))
+    (jobEndedOf r)))))))
 
 unfoldable pub advancedOf : Reader → ℕ → Reader
 advancedOf r b =
     cond (ownByte r b)
     (record { field = r .field; digits = r .digits + 1; value = valueAfter r b; job = r .job; sheet = r .sheet })
-    (storedOf r)
+    (storedOf r b)
 
 -- a sheet may end where a line has ended
 abbrev pub betweenLines : Reader → Bool

@@ -2,13 +2,14 @@
 // of it.
 ghost use mathlib.Core.Path.{_≡_};
 ghost use mathlib.Core.Bool.{true};
-ghost use Prim.Native.Nat.{_≤_, _<_};
-ghost use Rattle.sheet.specs.Reader.{SoundReader, startReader, letterFits, digitFits, ownByte, endByte, fitsOf, valueAfter, pushedOf, withSheet, jobEndedOf, storedOf, advancedOf, betweenLines};
+ghost use Prim.Native.Nat.{_<_};
+ghost use Rattle.sheet.specs.Reader.{SoundReader, startReader, letterField, letterFits, digitFits, ownByte, endByte, spareNext, endsField, fitsOf, valueAfter, pushedOf, withSheet, jobEndedOf, fieldAfter, storedOf, advancedOf, betweenLines};
 use crate::reading::Sheet;
 use job::Job;
 use job::JobList;
 
-// Fields: 0 the order's letter, 1 the model's, 2 the slot count, 3 to 6 C, T, m and k of a job.
+// Fields: 0 the order's letter, 1 the model's, 2 the slot count, 3 to 6 C, T, m and k of a job,
+// 7 the letter S after the slot count.
 // `digits` bytes of the field are read, and `value` is what they say.
 pub struct Reader {
     pub field: u32,
@@ -18,14 +19,24 @@ pub struct Reader {
     pub sheet: Sheet,
 }
 
-// 'V or W' in field 0, 'R (relaxed) or O (original)' in field 1.
+// The fields of one letter.
+fn letter_field(field: u32) -> bool
+    ensures { λ r. ⌜ r ≡ letterField field ⌝ }
+{
+    (field < 2) | (field == 7)
+}
+
+// 'V or W' in field 0, 'R (relaxed) or O (original)' in field 1, 'an optional S' in field 7.
 fn letter_fits(field: u32, byte: u8) -> bool
     ensures { λ r. ⌜ r ≡ letterFits field byte ⌝ }
 {
     if field == 0 {
         return (byte == b'V') | (byte == b'W');
     }
-    (byte == b'R') | (byte == b'O')
+    if field == 1 {
+        return (byte == b'R') | (byte == b'O');
+    }
+    byte == b'S'
 }
 
 // 'Numbers are 0 or up to 5 digits with no leading zero': whether one more digit may come.
@@ -39,11 +50,24 @@ fn digit_fits(digits: u32, value: u32, byte: u8) -> bool
 fn end_byte(field: u32) -> u8
     ensures { λ r. ⌜ r ≡ endByte field ⌝ }
 {
-    if (field == 2) | (field == 6) {
+    if (field == 2) | (5 < field) {
         b'\n'
     } else {
         b' '
     }
+}
+
+// Whether the byte ends the slot count and 'an optional S' comes next.
+fn spare_next(field: u32, byte: u8) -> bool
+    ensures { λ r. ⌜ r ≡ spareNext field byte ⌝ }
+{
+    (field == 2) & (byte == b' ')
+}
+
+fn ends_field(field: u32, byte: u8) -> bool
+    ensures { λ r. ⌜ r ≡ endsField field byte ⌝ }
+{
+    spare_next(field, byte) | (byte == end_byte(field))
 }
 
 // The list with one job more. Jobs past the sixteenth are counted and not kept.
@@ -85,15 +109,27 @@ fn job_ended(reader: Reader) -> Reader
     next
 }
 
-// What an ended field leaves: its value in its place, and the next field.
-fn stored(reader: Reader) -> Reader
+// The field that comes after the byte which ends this one.
+fn field_after(field: u32, byte: u8) -> u32
+    ensures { λ r. ⌜ r ≡ fieldAfter field byte ⌝ }
+{
+    if spare_next(field, byte) {
+        return 7;
+    }
+    if 5 < field {
+        return 3;
+    }
+    field + 1
+}
+
+// What a field leaves that the byte ends: its value in its place, and the next field.
+fn stored(reader: Reader, byte: u8) -> Reader
     requires { ⌜ reader .sheet .list .count < 18446744073709551615 ⌝ }
-    requires { ⌜ reader .field ≤ 6 ⌝ }
-    ensures { λ r. ⌜ r ≡ storedOf reader ⌝ }
+    ensures { λ r. ⌜ r ≡ storedOf reader byte ⌝ }
 {
     let value = reader.value;
     let field = reader.field;
-    let mut next = opened(reader, field + 1);
+    let mut next = opened(reader, field_after(field, byte));
     match field {
         0 => next.sheet.setting.order = value,
         1 => next.sheet.setting.model = value,
@@ -101,6 +137,7 @@ fn stored(reader: Reader) -> Reader
         3 => next.job.c = value,
         4 => next.job.t = value,
         5 => next.job.m = value,
+        7 => next.sheet.setting.spare = true,
         _ => next = job_ended(reader),
     }
     next
@@ -124,7 +161,7 @@ impl Reader {
     fn owns(self, byte: u8) -> bool
         ensures { λ r. ⌜ r ≡ ownByte self byte ⌝ }
     {
-        if self.field < 2 {
+        if letter_field(self.field) {
             return (self.digits == 0) & letter_fits(self.field, byte);
         }
         digit_fits(self.digits, self.value, byte)
@@ -134,7 +171,7 @@ impl Reader {
     pub fn fits(self, byte: u8) -> bool
         ensures { λ r. ⌜ r ≡ fitsOf self byte ⌝ }
     {
-        self.owns(byte) | ((0 < self.digits) & (byte == end_byte(self.field)))
+        self.owns(byte) | ((0 < self.digits) & ends_field(self.field, byte))
     }
 
     // The value of the field with one more byte of its own.
@@ -143,7 +180,7 @@ impl Reader {
         requires { ⌜ ownByte self byte ≡ true ⌝ }
         ensures { λ r. ⌜ r ≡ valueAfter self byte ⌝ }
     {
-        if self.field < 2 {
+        if letter_field(self.field) {
             return if (byte == b'W') | (byte == b'O') {
                 1
             } else {
@@ -165,7 +202,7 @@ impl Reader {
             next.digits = self.digits + 1;
             return next;
         }
-        stored(self)
+        stored(self, byte)
     }
 
     // Whether a sheet may end here.

@@ -5,10 +5,10 @@ use Rattle.cases.proofs.print_run.Statement.{statement}
 use Rattle.cases.proofs.print_run.Tie as tie
 
 abbrev Inv-loop : tie.InvT-loop
-Inv-loop name order model slots state₀ n₀ state n = n ≤ slots
+Inv-loop name slots state₀ n₀ state n = n ≤ slots
 
 abbrev μ-loop : tie.MeasureT-loop
-μ-loop name order model slots state₀ n₀ state n = slots - n
+μ-loop name slots state₀ n₀ state n = slots - n
 
 print-requires : tie.Need-print-requires Inv-loop μ-loop
 print-requires c κs = search needs
@@ -18,9 +18,6 @@ slice-aggregate-print c = search needs
 
 print-requires-2 : tie.Need-print-requires-2 Inv-loop μ-loop
 print-requires-2 c κs = search needs
-
-of-requires : tie.Need-of-requires Inv-loop μ-loop
-of-requires c κs = search needs
 
 start-requires : tie.Need-start-requires Inv-loop μ-loop
 start-requires c κs = search needs
@@ -55,7 +52,6 @@ print-run-spec =
     print-requires
     slice-aggregate-print
     print-requires-2
-    of-requires
     start-requires
     loop-holds
     print-step-requires

@@ -27,11 +27,11 @@ fn at_most(u: u32, n: u32, c: u32) -> bool
     (u as u64) <= (n as u64) * (c as u64)
 }
 
-// 'u ≤ .. mC', 's ≤ m': an unused counter is 0, and so within m too.
-fn within_m(q: Place) -> bool
-    ensures { λ r. ⌜ r ≡ withinM q ⌝ }
+// 'u ≤ .. mC', 's ≤ m', with spare off: an unused counter is 0, and so within m too.
+fn within_m(setting: Setting, q: Place) -> bool
+    ensures { λ r. ⌜ r ≡ withinM setting q ⌝ }
 {
-    at_most(q.at.u, q.job.m, q.job.c) & (q.at.s <= q.job.m)
+    setting.spare | (at_most(q.at.u, q.job.m, q.job.c) & (q.at.s <= q.job.m))
 }
 
 // 'u ≤ .. pC (relaxed)', 'unused counters are 0'
@@ -55,9 +55,9 @@ fn service_in_range(setting: Setting, q: Place) -> bool
     ensures { λ r. ⌜ r ≡ serviceInRange setting q ⌝ }
 {
     if by_units(setting) {
-        return within_m(q) & units_in_range(q);
+        return within_m(setting, q) & units_in_range(q);
     }
-    within_m(q) & instances_in_range(q)
+    within_m(setting, q) & instances_in_range(q)
 }
 
 fn progress_in_range(setting: Setting, q: Place) -> bool

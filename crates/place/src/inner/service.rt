@@ -1,11 +1,11 @@
 // One place over one slot: what it is owed, whether it may be served, and what the slot makes of it.
 ghost use mathlib.Core.Path.{_≡_};
-ghost use mathlib.Core.Bool.{true};
+ghost use mathlib.Core.Bool.{true, false};
 ghost use lib.Dec.{ltb};
 ghost use Rattle.place.specs.Sound.{SoundPlace};
 ghost use Rattle.place.specs.Setting.{byUnits};
 ghost use Rattle.place.specs.Place.{finishedOf, owedOf, windowLeft, leftOf, eligibleOf, numeratorOf, overdueOf, tagsOf, firstTagged, servedOf, givenOf, taggedOf, windowEnds, turnedOf, shortOf, movedOf};
-ghost use Rattle.place.specs.Choice.{candidateOf};
+ghost use Rattle.place.specs.Choice.{takesSpare, candidateOf};
 use crate::record::Place;
 use crate::record::Progress;
 use crate::setting::Setting;
@@ -36,9 +36,10 @@ fn finished(setting: Setting, q: Place) -> u32
     q.at.s
 }
 
-// m', the instances that the window still lacks.
+// m' of an eligible place: it is above 0, so that nothing wraps.
 pub(crate) fn owed(setting: Setting, q: Place) -> u32
     requires { ⌜ SoundPlace setting q ⌝ }
+    requires { ⌜ eligibleOf setting q ≡ true ⌝ }
     ensures { λ r. ⌜ r ≡ owedOf setting q ⌝ }
 {
     q.job.m - finished(setting, q)
@@ -75,11 +76,28 @@ pub(crate) fn eligible(setting: Setting, q: Place) -> bool
 // k'T − e m', the numerator over m' of the distance to the virtual deadline.
 pub(crate) fn numerator(setting: Setting, q: Place) -> i64
     requires { ⌜ SoundPlace setting q ⌝ }
+    requires { ⌜ eligibleOf setting q ≡ true ⌝ }
     ensures { λ r. ⌜ r ≡ numeratorOf setting q ⌝ }
 {
     let ahead = window_left(setting, q);
     let gone = q.at.e * owed(setting, q);
     (ahead as i64) - (gone as i64)
+}
+
+// Whether a place that is not eligible may take a spare slot. 'Relaxed: u < pC; original: s < p and v < C'
+// (02): who has that and is not eligible has its m.
+pub(crate) fn takes_spare(setting: Setting, q: Place) -> bool
+    requires { ⌜ SoundPlace setting q ⌝ }
+    requires { ⌜ eligibleOf setting q ≡ false ⌝ }
+    ensures { λ r. ⌜ r ≡ takesSpare setting q ⌝ }
+{
+    if setting.spare {
+        if by_units(setting) {
+            return q.at.u < q.at.p * q.job.c;
+        }
+        return (q.at.s < q.at.p) & (q.at.v < q.job.c);
+    }
+    false
 }
 
 // Whether m' > 0, without the division that m' may take.
@@ -94,12 +112,13 @@ fn lacks(setting: Setting, q: Place) -> bool
 }
 
 // Whether m' > 0 and the virtual deadline is at most the next slot's number: k'T ≤ (e + 1) m', which
-// no m' = 0 meets.
+// no m' = 0 meets. Where more than m is finished, m' is 0: nothing is subtracted.
 fn overdue(setting: Setting, q: Place) -> bool
     requires { ⌜ SoundPlace setting q ⌝ }
     ensures { λ r. ⌜ r ≡ overdueOf setting q ⌝ }
 {
-    window_left(setting, q) <= (q.at.e + 1) * owed(setting, q)
+    let next = q.at.e + 1;
+    window_left(setting, q) + next * finished(setting, q) <= next * q.job.m
 }
 
 // Whether the slot tags the place. While more than m periods are left, this one counted, no deadline

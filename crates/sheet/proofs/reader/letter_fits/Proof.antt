@@ -8,7 +8,10 @@ returns : tie.Need-returns
 returns c = rw (eq-eqb _ _ (c .if1 .taken)) refl
 
 returns-2 : tie.Need-returns-2
-returns-2 c = rw (ne-eqb _ _ (c .if1 .left)) refl
+returns-2 c = rw (ne-eqb _ _ (c .before .if1 .left), eq-eqb _ _ (c .if2 .taken)) refl
+
+returns-3 : tie.Need-returns-3
+returns-3 c = rw (ne-eqb _ _ (c .before .if1 .left), ne-eqb _ _ (c .if2 .left)) refl
 
 pub letter-fits-spec : {M : Type 1} → statement M
-letter-fits-spec = tie.close (tie.spec returns returns-2)
+letter-fits-spec = tie.close (tie.spec returns returns-2 returns-3)

@@ -9,7 +9,7 @@ at-most-requires c κs = search needs
 
 returns : tie.Need-returns
 unfolding withinM
-returns c = simp (c .before .at-most .ensures)
+returns c = simp (c .before .before .at-most .ensures)
 
 pub within-m-spec : {M : Type 1} → statement M
 within-m-spec = tie.close (tie.spec at-most-requires returns)

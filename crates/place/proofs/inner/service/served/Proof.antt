@@ -5,7 +5,7 @@ use Prim.Native.Nat.{_+_}
 use borrow.Author.Needs.{needs}
 use borrow.Author.Tests.{eq-eqb, ne-eqb}
 use Rattle.place.specs.Place.{servedOf}
-use Rattle.place.proofs.BoundLaws.{mc-high}
+use Rattle.place.proofs.BoundLaws.{pc-high}
 use Rattle.place.proofs.inner.service.served.Statement.{statement}
 use Rattle.place.proofs.inner.service.served.Tie as tie
 
@@ -16,7 +16,7 @@ add-u : tie.Need-add-u
 add-u c =
     let s = c .before .before .before .pre .0 in
     let r = s .service .by-units (sym (c .before .before .by-units .ensures) ∙ c .before .if1 .taken) in
-    omega (arith, mc-high s)
+    omega (arith, r .u-p, pc-high s)
 
 returns : tie.Need-returns
 unfolding servedOf

@@ -8,12 +8,12 @@ use Rattle.sheet.proofs.reader.Reader.fits.Tie as tie
 owns-requires : tie.Need-owns-requires
 owns-requires c κs = search needs
 
-end-byte-requires : tie.Need-end-byte-requires
-end-byte-requires c κs = search needs
+ends-field-requires : tie.Need-ends-field-requires
+ends-field-requires c κs = search needs
 
 returns : tie.Need-returns
 unfolding fitsOf
-returns c = rw (c .before .before .owns .ensures, c .end-byte .ensures) refl
+returns c = rw (c .before .before .owns .ensures, c .ends-field .ensures) refl
 
 pub fits-spec : {M : Type 1} → statement M
-fits-spec = tie.close (tie.spec owns-requires end-byte-requires returns)
+fits-spec = tie.close (tie.spec owns-requires ends-field-requires returns)

@@ -43,6 +43,12 @@ static bool waiting(const struct state *st, const struct place *q)
     return q->s < q->p && q->v < q->job.c;
 }
 
+/* The slot, given to the place, finishes an instance. */
+static bool finishes(const struct state *st, const struct place *q)
+{
+    return st->model == 0 ? (q->u + 1) % q->job.c == 0 : q->v + 1 == q->job.c;
+}
+
 static int64_t window_left(const struct place *q)
 {
     return (int64_t)(q->job.k - q->p + 1) * q->job.t;
@@ -92,6 +98,11 @@ static size_t choose_spare(const struct state *st)
 
 static void move_on(struct state *st, struct place *q, bool chosen)
 {
+    int64_t lacking = owed(st, q);
+    if (lacking > 0 && window_left(q) - (int64_t)q->e * lacking <= lacking && !q->tag && !(chosen && finishes(st, q))) {
+        q->tag = true;
+        st->tags++;
+    }
     if (chosen) {
         if (st->model == 0) {
             q->u++;
@@ -99,12 +110,6 @@ static void move_on(struct state *st, struct place *q, bool chosen)
             q->v++;
             if (q->v == q->job.c)
                 q->s++;
-        }
-    } else {
-        int64_t lacking = owed(st, q);
-        if (lacking > 0 && window_left(q) - (int64_t)q->e * lacking <= lacking && !q->tag) {
-            q->tag = true;
-            st->tags++;
         }
     }
     if (++q->e < q->job.t)

@@ -81,6 +81,7 @@ class View(NamedTuple):
     window_end: int  # the first slot after it
     eligible: bool
     waiting: bool  # "has its m and still has an unserved instance come due"
+    finished: int  # instances finished in the window
     deadline: Fraction | None  # None: "a job with m' = 0 has no virtual deadline"
 
 
@@ -132,7 +133,7 @@ class History:
         # "virtual deadline, period start + k'T/m'"
         k1, m1 = k - p + 1, m - done
         deadline = period + Fraction(k1 * T, m1) if m1 > 0 else None
-        return View(window, window + k * T, eligible, done >= m and due, deadline)
+        return View(window, window + k * T, eligible, done >= m and due, done, deadline)
 
 
 def choose(views, order, spare):
@@ -160,17 +161,18 @@ def run(jobs, order, model, slots, spare=False):
         history.choices.append(IDLE if choice is None else choice)
         tags, shorts = [], []
         for number, it in enumerate(views):
-            # "Tag each job, other than the one chosen, that had m' > 0 before the slot
-            # and whose virtual deadline, from the values before the slot, is at most
-            # the slot number + 1."
+            # "Tag each job [...] that had m' > 0 before the slot and whose virtual deadline,
+            # from the values before the slot, is at most the slot number + 1."
             late = it.deadline is not None and it.deadline <= now + 1
+            # "Tag the job chosen too, unless it finishes an instance in that slot"
+            finished = history.finished(number, it.window)
+            finishes = number == choice and finished > it.finished
             # "the set of jobs first tagged in their window"
-            if late and number != choice and (number, it.window) not in tagged:
+            if late and not finishes and (number, it.window) not in tagged:
                 tagged.add((number, it.window))
                 tags.append(number)
             # "A window is short exactly if it ends with m' > 0."
-            ends = it.window_end == now + 1
-            if ends and history.finished(number, it.window) < history.jobs[number].m:
+            if it.window_end == now + 1 and finished < history.jobs[number].m:
                 shorts.append(number)
         answers.append((choice, tags, shorts))
     return answers

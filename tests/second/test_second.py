@@ -47,7 +47,8 @@ equal("C", choices(C, W, R, 8), "0 0 1 1 0 0 - -")
 equal("D", choices(C, W, O, 8), "0 0 1 - 0 0 1 -")
 equal("E", choices(E, W, R, 6), "1 0 1 0 1 -")
 equal("F", run(jobs(F), W, R, 2), [(0, [], []), (0, [1], [1])])
-equal("G", run(jobs(G), W, R, 2), [(0, [], []), (1, [], [1])])
+# "Case G then tags job 1 in slot 1."
+equal("G", run(jobs(G), W, R, 2), [(0, [], []), (1, [1], [1])])
 equal("H", admission(jobs("1 2 1 1, 1 3 1 1, 1 6 1 1"), R), (0, None, 6, 6))
 equal("I", admission(jobs("1 2 1 1, 1 2 1 1, 1 100 1 255"), R), (9, None, 25_500, 25_501))
 
@@ -160,13 +161,14 @@ prints(
     "0 0 t1 t2 s1 s2",
     "given 1 idle 0 tagged 2 short 2",
 )
-# Job 1 loses what slot 2 gave, has its instance of period 2 after slot 4, and in slot 5
-# is not eligible but lacks one: deadline 3 + 3/1 = 6, tagged in an idle slot.
+# Slot 2 is job 1's, which begins an instance and finishes none: deadline 0 + 6/2 = 3, so it
+# is tagged, as the job chosen.  It loses what slot 2 gave, has its instance of period 2 after
+# slot 4, and in slot 5 is not eligible but lacks one: deadline 3 + 3/1 = 6, tagged already.
 prints(
-    "original: tagged while not eligible",
+    "original: tagged as the job chosen",
     "W O 6\n2 6 1 1\n2 3 2 2\n",
     "cycle 0 load 0 not judged",
-    *["0 0", "1 0", "2 1", "3 1", "4 1", "5 - t1 s1"],
+    *["0 0", "1 0", "2 1 t1", "3 1", "4 1", "5 - s1"],
     "given 5 idle 1 tagged 1 short 1",
 )
 # The same jobs, relaxed: the slot is kept, so 5 serves the second instance.
@@ -174,9 +176,19 @@ prints(
     "relaxed: a begun instance is kept",
     "W R 6\n2 6 1 1\n2 3 2 2\n",
     "cycle 6 load 6 admitted",
-    *["0 0", "1 0", "2 1", "3 1", "4 1", "5 1"],
-    "given 6 idle 0 tagged 0 short 0",
+    *["0 0", "1 0", "2 1 t1", "3 1", "4 1", "5 1"],
+    "given 6 idle 0 tagged 1 short 0",
 )
+# In slots 1 and 3 the deadline is the next slot, 0 + 2/1 and 2 + 2/1, and the slot finishes
+# the instance: not tagged.
+for model, verdict in ("R", "cycle 2 load 2 admitted"), ("O", "cycle 0 load 0 not judged"):
+    prints(
+        "not tagged where it finishes",
+        f"V {model} 4\n2 2 1 1\n",
+        verdict,
+        *["0 0", "1 0", "2 0", "3 0"],
+        "given 4 idle 0 tagged 0 short 0",
+    )
 # A job never runs ahead of its periods: one slot in each of the first two.
 prints(
     "relaxed: not ahead",
@@ -226,13 +238,14 @@ prints(
     *["0 0", "1 1", "2 0", "3 1", "4 0", "5 1", "6 0", "7 1"],
     "given 8 idle 0 tagged 0 short 0",
 )
-# Job 1 loses what slot 2 gave.  In slot 5 it has v = C and lacks one, so job 0 has the
-# slot as spare, and job 1 is tagged: deadline 3 + 3/1 = 6.
+# Job 1 loses what slot 2 gave, and is tagged there: deadline 0 + 6/2 = 3.  In slot 5 it has
+# v = C and lacks one, so job 0 has the slot as spare; it begins an instance and finishes none,
+# but has its m, so it is not tagged.
 prints(
-    "tagged in a spare slot",
+    "short in a spare slot",
     "W O 6 S\n2 3 1 2\n2 3 2 2\n",
     "cycle 0 load 0 not judged",
-    *["0 0", "1 0", "2 1", "3 1", "4 1", "5 0 t1 s1"],
+    *["0 0", "1 0", "2 1 t1", "3 1", "4 1", "5 0 s1"],
     "given 6 idle 0 tagged 1 short 1",
 )
 
@@ -370,6 +383,22 @@ for number in range(300):
         equal(f"off within on {some}", kept, off)
         taken += off != on
 equal("lists that took spare slots", taken > 50, True)
+
+# "a window that ends untagged is not short, in both models and orders, spare on or off,
+# counted from its opening": each short window was told among the first tags since it opened.
+windows = 0
+for number in range(300):
+    rng = sheets.draw("untagged", number)
+    some, order, model = sheets.any_jobs(rng), rng.choice((V, W)), rng.choice((R, O))
+    if check(some)[0] == 0:
+        answers = run(some, order, model, 60, rng.choice((False, True)))
+        for slot, (_, _, shorts) in enumerate(answers):
+            for job in shorts:
+                _, T, _, k = some[job]
+                since = answers[slot + 1 - k * T : slot + 1]
+                equal(f"tagged {some}", sum(tags.count(job) for _, tags, _ in since), 1)
+                windows += 1
+equal("short windows", windows > 500, True)
 
 # "the promise of no short window is for W": tried on the admitted lists of many.
 for number in range(400):

@@ -131,7 +131,7 @@ module _ {setting : Setting} {q : Place} (s : SoundPlace setting q) where
       go false room = sym (and-false (eqb (owedOf setting q) 0))
 
   -- the tag's condition without signs, and when it is too early for it
-  overdue-is : leb (windowLeft q) ((q .at .e + 1) * owedOf setting q) ≡ overdueOf setting q
+  pub overdue-is : leb (windowLeft q) ((q .at .e + 1) * owedOf setting q) ≡ overdueOf setting q
   unfolding overdueOf numeratorOf
   overdue-is =
       let product : q .at .e * owedOf setting q + owedOf setting q ≡ (q .at .e + 1) * owedOf setting q = omega arith in
@@ -181,7 +181,7 @@ module _ {setting : Setting} {q : Place} (s : SoundPlace setting q) where
   pub next-high : (q .at .e + 1) * q .job .m ≤ 1044480
   next-high = mul-le-mul {n₂ = 4096} {m₂ = 255} (omega arith) (omega arith)
 
-  owed-most : owedOf setting q ≤ q .job .m
+  pub owed-most : owedOf setting q ≤ q .job .m
   unfolding owedOf
   owed-most = omega arith
 

@@ -1,5 +1,5 @@
 -- One place over one slot ('One slot, in order').
-use Prim.Native.Nat.{ℕ, _+_, _-_, _*_, _/_}
+use Prim.Native.Nat.{ℕ, _+_, _-_, _*_, _/_, _%_}
 use mathlib.Core.Bool.{Bool, _&&_, _||_, not, cond}
 use lib.Dec.{ltb, eqb}
 use lib.IntN.{ℤ, pos, _-ℤ_}
@@ -63,9 +63,13 @@ servedOf setting q =
     (withService q (r .u + 1) (r .s) (r .v))
     (withService q (r .u) (cond (eqb (r .v + 1) (q .job .c)) (r .s + 1) (r .s)) (r .v + 1))
 
--- whether the slot tags the place, first or again: 'Tag each job, other than the one chosen, that ..'
+-- whether one more unit finishes an instance: u + 1 is a multiple of C (relaxed); v + 1 is C (original)
+unfoldable pub finishesOf : Setting → Place → Bool
+finishesOf setting q = cond (byUnits setting) (eqb ((q .at .u + 1) % q .job .c) 0) (eqb (q .at .v + 1) (q .job .c))
+
+-- whether the slot tags the place, first or again: 'Tag the job chosen too, unless it finishes an instance in that slot' (02, Item 2)
 unfoldable pub tagsOf : Setting → Place → Bool → Bool
-tagsOf setting q chosen = not chosen && overdueOf setting q
+tagsOf setting q chosen = overdueOf setting q && not (chosen && finishesOf setting q)
 
 -- 'the set of jobs first tagged in their window'
 unfoldable pub firstTagged : Setting → Place → Bool → Bool

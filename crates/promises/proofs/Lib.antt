@@ -1,7 +1,7 @@
 -- The laws behind the statements of specs/, and their proofs.
 pub mod SumLaws
 pub mod AmountLaws
-pub mod WindowLaws
+pub mod UnitLaws
 pub mod WorkLaws
 pub mod DueLaws
 pub mod OnTimeLaws

@@ -24,13 +24,13 @@ use Rattle.rules.specs.Rules.{slotsOf, sinceWindow, periodsBegun}
 use Rattle.run.proofs.HereLaws.{at, job-sound}
 use Rattle.promises.specs.DemandThree.{windowOrder}
 use Rattle.rules.proofs.BytesLaws.{countIn-more}
-use Rattle.rules.proofs.CycleLaws.{cycle-ends}
+use Rattle.place.proofs.CycleLaws.{cycle-ends}
 use Rattle.run.proofs.TurnLaws.{nextByte, byte-at, byte-fair}
 use Rattle.run.proofs.RunLaws.{choices-more, choices-long}
 use Rattle.rules.proofs.HistoryLaws.{PlaceHistory}
 use Rattle.rules.proofs.PlaceLaws.{ends-told}
 use Rattle.rules.proofs.RunLaws.{place-sound, places-told}
-use Rattle.promises.proofs.WindowLaws.{usedOf, used-most}
+use Rattle.promises.proofs.UnitLaws.{usedOf, used-most}
 use Rattle.promises.proofs.WorkLaws.{serviceOf, missedOf, missed-over}
 use Rattle.promises.proofs.OnTimeLaws.{window-allowed, runOf, run-units, run-listed, run-sound}
 use Rattle.promises.proofs.AdmittedLaws.{Holds, admitted-none-missed}

@@ -1,5 +1,5 @@
 -- The work of a place whose service is kept by units, due within D slots, and what one slot leaves of it.
-use mathlib.Core.Path.{_≡_, refl, _∙_}
+use mathlib.Core.Path.{_≡_, _∙_}
 use mathlib.Core.Bool.{Bool, true, false, cond}
 use mathlib.Core.Logic.{_⊎_, inl, inr}
 use Prim.Native.Nat.{ℕ, _+_, _-_, _*_, _/_, _≤_, _<_}
@@ -16,8 +16,10 @@ use Rattle.place.specs.Place.{leftOf, eligibleOf, windowEnds, movedOf}
 use Rattle.place.specs.Sound.{SoundPlace}
 use Rattle.admission.proofs.CycleLaws.{window-positive}
 use Rattle.place.proofs.PlaceLaws.{eligible-units}
+use Rattle.place.proofs.CounterLaws.{worked}
+use Rattle.place.proofs.WindowLaws.{Stays, Ends, opened-left, moved-view}
 use Rattle.promises.proofs.AmountLaws.{amount, amount-in, amount-out, amount-shift, amount-more, amount-new, amount-last, amount-bound, lack-within-share}
-use Rattle.promises.proofs.WindowLaws.{usedOf, Stays, Ends, opened-left, not-eligible, left-more, moved-view}
+use Rattle.promises.proofs.UnitLaws.{usedOf, not-eligible, left-more}
 
 -- 'm times C units per window'
 abbrev pub serviceOf : Job → ℕ
@@ -36,14 +38,9 @@ abbrev pub leavesOf : Setting → Place → Bool → ℕ → ℕ
 leavesOf setting q chosen D = dueOf (movedOf setting q chosen .place) D + missedOf q chosen
 
 -- where a window opens
-due-opening :
-    {j : Job} (q : Place) (D : ℕ) → SoundJob j → q .job ≡ j → leftOf q ≡ windowOf j → q .at .u ≡ 0
-    → dueOf q D ≡ D / windowOf j * serviceOf j
-due-opening {j} q D sound same whole unused =
-    rw (whole, unused, same, sub-zero) (amount-new (windowOf j) (serviceOf j) D (window-positive sound))
-
 pub due-opened : {j : Job} (D : ℕ) → SoundJob j → dueOf (opened j) D ≡ D / windowOf j * serviceOf j
-due-opened {j} D sound = due-opening (opened j) D sound refl (opened-left sound) refl
+due-opened {j} D sound =
+    rw (opened-left sound, sub-zero) (amount-new (windowOf j) (serviceOf j) D (window-positive sound))
 
 used-least : (q : Place) (chosen : Bool) → q .at .u ≤ usedOf q chosen
 used-least q true = omega arith
@@ -65,15 +62,17 @@ module _ (q : Place) (chosen : Bool) where
   within left D = amount (windowOf (q .job)) (serviceOf (q .job)) left lack D
 
   -- what is due after the slot, by the numbers before it
-  module _ {r : Place} (D : ℕ) where
-    stays-due : Stays q chosen r → dueOf r D + missedOf q chosen ≡ within (leftOf r) D
-    stays-due s = rw (missed-open (s .open-still), s .same-job, s .used, add-zero)
+  module _ {setting : Setting} (units : byUnits setting ≡ true) {r : Place} (D : ℕ) where
+    stays-due : Stays setting q chosen r → dueOf r D + missedOf q chosen ≡ within (leftOf r) D
+    stays-due s = rw (missed-open (s .open-still), s .same-job, s .same-u ∙ worked setting q chosen .u-more units, add-zero)
 
-    stays-earlier : Stays q chosen r → dueOf r D + missedOf q chosen ≡ within (leftOf q) (D + 1)
+    stays-earlier : Stays setting q chosen r → dueOf r D + missedOf q chosen ≡ within (leftOf q) (D + 1)
     stays-earlier s = stays-due s ∙ rw (s .one-less) (amount-shift (windowOf (q .job)) (serviceOf (q .job)) (leftOf r) lack D)
 
-    ends-due : Ends q r → SoundJob (q .job) → dueOf r D + missedOf q chosen ≡ D / windowOf (q .job) * serviceOf (q .job) + lack
-    ends-due s sound = rw (due-opening r D sound (s .same-job) (s .whole) (s .unused), missed-over (s .over))
+  ends-due :
+      {r : Place} (D : ℕ) → Ends q r → SoundJob (q .job)
+      → dueOf r D + missedOf q chosen ≡ D / windowOf (q .job) * serviceOf (q .job) + lack
+  ends-due D s sound = rw (s .opens, due-opened D sound, missed-over (s .over))
 
 module _ {setting : Setting} {q : Place} (sound : SoundPlace setting q) (units : byUnits setting ≡ true) where
   abbrev window : ℕ
@@ -101,10 +100,10 @@ module _ {setting : Setting} {q : Place} (sound : SoundPlace setting q) (units :
     leaves = leavesOf setting q chosen D
 
     abbrev View : Type 0
-    View = Stays q chosen (movedOf setting q chosen .place) ⊎ Ends q (movedOf setting q chosen .place)
+    View = Stays setting q chosen (movedOf setting q chosen .place) ⊎ Ends q (movedOf setting q chosen .place)
 
     view : View
-    view = moved-view sound units chosen
+    view = moved-view sound chosen
 
     -- a slot never adds to what is due
     pub keeps : leaves ≤ dueOf q (D + 1)
@@ -114,7 +113,7 @@ module _ {setting : Setting} {q : Place} (sound : SoundPlace setting q) (units :
         fewer = omega (arith, used-least q chosen)
 
         go : View → leaves ≤ dueOf q (D + 1)
-        go (inl s) = rw (stays-earlier q chosen D s) (amount-more window service (leftOf q) (D + 1) fewer)
+        go (inl s) = rw (stays-earlier q chosen units D s) (amount-more window service (leftOf q) (D + 1) fewer)
         go (inr s) =
             rw (ends-due q chosen D s (sound .job), s .last-slot, amount-last window service (service - q .at .u) D)
             (omega (arith, fewer))
@@ -124,7 +123,7 @@ module _ {setting : Setting} {q : Place} (sound : SoundPlace setting q) (units :
     far late = go view
       where
         go : View → leaves ≡ 0
-        go (inl s) = stays-earlier q chosen D s ∙ amount-out window service (lack q chosen) late
+        go (inl s) = stays-earlier q chosen units D s ∙ amount-out window service (lack q chosen) late
         go (inr s) = absurd (omega (arith, s .last-slot))
 
     -- a place that is not eligible has no more than its share of D slots due, whether the slot is given to it or not
@@ -133,7 +132,7 @@ module _ {setting : Setting} {q : Place} (sound : SoundPlace setting q) (units :
       where
         go : View → leaves * window ≤ service * D
         go (inl s) =
-            rw (stays-due q chosen D s)
+            rw (stays-due q chosen units D s)
             (amount-bound window service (leftOf (movedOf setting q chosen .place)) (lack q chosen) D
             (idle-lack chosen (leftOf (movedOf setting q chosen .place)) e (omega (arith, left-more sound, s .one-less))))
         go (inr s) =
@@ -152,7 +151,7 @@ module _ {setting : Setting} {q : Place} (sound : SoundPlace setting q) (units :
       go : View true D → leavesOf setting q true D + 1 ≤ dueOf q (D + 1)
       go (inl s) =
           rw (
-            stays-earlier q true D s,
+            stays-earlier q true units D s,
             amount-in window service (lack q true) soon,
             amount-in window service (service - q .at .u) soon,
           )

@@ -1,4 +1,5 @@
--- 'Runs worked by hand', the nine marked to be proved, and that of document 02, Item 1, in one list with one claim over it.
+-- 'Runs worked by hand', the nine marked to be proved, as document 02 leaves them (Item 2 in case G), and that of its Item 1, in one list with one
+-- claim over it.
 use Prim.Native.Nat.{ℕ, zero, suc, _-_}
 use mathlib.Core.Path.{_≡_}
 use mathlib.Core.Bool.{true}
@@ -78,8 +79,8 @@ cases =
     ∷ case (job 2 3 1 2 ∷ job 1 2 1 1 ∷ []) (settingOf orderW relaxed) (given 1 ∷ given 0 ∷ given 1 ∷ given 0 ∷ given 1 ∷ idle ∷ []) (row 0 (6 ∷ 5 ∷ []))
     -- 'F: 1 1 1 1 and 1 2 1 1, W R, 2 slots: 0 0; slot 1 tags job 1, whose window is short.'
     ∷ case (job 1 1 1 1 ∷ job 1 2 1 1 ∷ []) (settingOf orderW relaxed) (given 0 ∷ marked 2 2 0 ∷ []) (row 9 (2 ∷ 3 ∷ []))
-    -- 'G: 1 2 1 1 and 2 2 1 1, W R, 2 slots: 0 1; job 1 short, no tag.'
-    ∷ case (job 1 2 1 1 ∷ job 2 2 1 1 ∷ []) (settingOf orderW relaxed) (given 0 ∷ marked 0 2 1 ∷ []) (row 9 (2 ∷ 3 ∷ []))
+    -- 'G: 1 2 1 1 and 2 2 1 1, W R, 2 slots: 0 1; job 1 short', and document 02 over 01's 'no tag': 'Case G then tags job 1 in slot 1' (Item 2)
+    ∷ case (job 1 2 1 1 ∷ job 2 2 1 1 ∷ []) (settingOf orderW relaxed) (given 0 ∷ marked 2 2 1 ∷ []) (row 9 (2 ∷ 3 ∷ []))
     -- 'H: 1 2 1 1, 1 3 1 1, 1 6 1 1: cycle 6, load 6, admitted.'
     ∷ case (job 1 2 1 1 ∷ job 1 3 1 1 ∷ job 1 6 1 1 ∷ []) (settingOf orderW relaxed) [] (row 0 (6 ∷ 6 ∷ []))
     -- 'I: 1 2 1 1 twice and 1 100 1 255: cycle 25,500, load 25,501, refusal 9.'

@@ -1,38 +1,27 @@
--- How far the open cycle of m slots has come after n slots, and after one more; periods of t slots in windows of k periods.
+-- The bytes of the open cycle of m slots after n slots, and after one more; periods of t slots in windows of k periods.
 use mathlib.Core.Path.{_≡_, ap, _∙_}
 use mathlib.Core.List.{List, [], _∷_, _++_}
 use Prim.Native.Nat.{ℕ, suc, _+_, _-_, _*_, _/_, _%_, _≤_, _<_}
-use native.Mathlib.Nat.{suc-mod, mod-self, mod-lt, mod-eq-of-lt, mod-mod-of-dvd, div-add-mod', div-lt-iff-lt-mul, mul-div-cancel, zero-div, suc-mul, mul-pos, dvd-mul-left}
+use native.Mathlib.Nat.{mod-lt, mod-mod-of-dvd, div-add-mod', div-lt-iff-lt-mul, mul-div-cancel, zero-div, suc-mul, mul-pos, dvd-mul-left}
 use native.Mathlib.Decide.{decLt}
 use native.Mathlib.Omega.{arith}
 use lib.Arith.{digits-lt, digits-div}
 use lib.ListN.{length, drop, drop-of-length-le}
 use lib.Seq.{drop-append-le}
+use Rattle.place.proofs.CycleLaws.{cycle-goes-on, cycle-ends}
 
-module _ (m n : ℕ) where
-  pub cycle-goes-on : n % m + 1 < m → suc n % m ≡ n % m + 1
-  cycle-goes-on h =
-      let inside : suc (n % m) < m = omega arith in
-      let next : suc (n % m) % m ≡ suc (n % m) = mod-eq-of-lt inside in
-      omega (arith, suc-mod n m)
+-- the bytes since the cycle opened; where it opens there are none yet
+module _ (m n : ℕ) (bytes : List ℕ) (long : length bytes ≡ n) where
+  pub since-goes-on :
+      (b : ℕ) → n % m + 1 < m → drop (suc n - suc n % m) (bytes ++ b ∷ []) ≡ drop (n - n % m) bytes ++ b ∷ []
+  since-goes-on b h =
+      let same : suc n - suc n % m ≡ n - n % m = omega (arith, cycle-goes-on m n h) in
+      rw same (drop-append-le (n - n % m) bytes (b ∷ []) (omega arith))
 
-  pub cycle-ends : n % m + 1 ≡ m → suc n % m ≡ 0
-  cycle-ends h =
-      let whole : suc (n % m) ≡ m = omega arith in
-      suc-mod n m ∙ ap (_% m) whole ∙ mod-self m
-
-  -- the bytes since the cycle opened; where it opens there are none yet
-  module _ (bytes : List ℕ) (long : length bytes ≡ n) where
-    pub since-goes-on :
-        (b : ℕ) → n % m + 1 < m → drop (suc n - suc n % m) (bytes ++ b ∷ []) ≡ drop (n - n % m) bytes ++ b ∷ []
-    since-goes-on b h =
-        let same : suc n - suc n % m ≡ n - n % m = omega (arith, cycle-goes-on h) in
-        rw same (drop-append-le (n - n % m) bytes (b ∷ []) (omega arith))
-
-    pub since-none : n % m ≡ 0 → drop (n - n % m) bytes ≡ []
-    since-none opens =
-        let all : length bytes ≤ n - n % m = omega arith in
-        drop-of-length-le bytes all
+  pub since-none : n % m ≡ 0 → drop (n - n % m) bytes ≡ []
+  since-none opens =
+      let all : length bytes ≤ n - n % m = omega arith in
+      drop-of-length-le bytes all
 
 -- the periods begun in the open window
 abbrev pub begun : ℕ → ℕ → ℕ → ℕ

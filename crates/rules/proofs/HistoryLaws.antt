@@ -20,10 +20,11 @@ use Rattle.place.specs.Place.{workedOf, turnedOf, movedOf}
 use Rattle.place.specs.Choice.{candidateOf}
 use Rattle.place.specs.Sound.{SoundPlace}
 use Rattle.rules.specs.Rules.{slotsOf, finishedIn, periodStart, sinceWindow, periodsBegun}
+use Rattle.place.proofs.CycleLaws.{cycle-goes-on, cycle-ends}
 use Rattle.place.proofs.CounterLaws.{Served, worked, turned-on, turned-period, turned-window}
 use Rattle.place.proofs.PlaceLaws.{candidate-instances}
 use Rattle.rules.proofs.BytesLaws.{countIn-none, countIn-more, finished-none, finished-append, finished-open, finished-empty}
-use Rattle.rules.proofs.CycleLaws.{Tick, nothing-ends, period-ends, window-ends, cycle-goes-on, cycle-ends, since-goes-on, since-none, window-split, tick}
+use Rattle.rules.proofs.CycleLaws.{Tick, nothing-ends, period-ends, window-ends, since-goes-on, since-none, window-split, tick}
 
 -- the bytes of the open period
 abbrev pub sincePeriod : Job → ℕ → List ℕ → List ℕ

@@ -8,3 +8,4 @@ pub mod ChoiceLaws
 pub mod SetLaws
 pub mod RunLaws
 pub mod Meaning
+pub mod TagMeaning

@@ -16,12 +16,13 @@ use Rattle.place.specs.Setting.{byUnits, inOrderV}
 use Rattle.place.specs.Place.{windowLeft, leftOf, finishedOf, owedOf, eligibleOf, numeratorOf, overdueOf, windowEnds}
 use Rattle.place.specs.Choice.{roomOf, takesSpare, virtualAway, windowAway, dueAway}
 use Rattle.place.specs.Sound.{SoundPlace}
+use Rattle.place.proofs.CycleLaws.{cycle-goes-on, cycle-ends}
 use Rattle.place.proofs.CondLaws.{by-test}
 use Rattle.place.proofs.SignedLaws.{difference-most}
 use Rattle.place.proofs.DistanceLaws.{difference-parts, leb-shift}
 use Rattle.rules.specs.Rules.{slotsOf, finishedIn, windowStart, periodStart, periodsBegun, windowEnd, sinceWindow, ofWindow, ofPeriod, finished, owed, due, takes, virtualDeadline, deadline}
 use Rattle.rules.proofs.BytesLaws.{finished-rest}
-use Rattle.rules.proofs.CycleLaws.{Tick, nothing-ends, period-ends, window-ends, cycle-goes-on, cycle-ends, window-split, begun-high, tick}
+use Rattle.rules.proofs.CycleLaws.{Tick, nothing-ends, period-ends, window-ends, window-split, begun-high, tick}
 use Rattle.rules.proofs.HistoryLaws.{sincePeriod, PlaceHistory, Worked}
 use Rattle.rules.proofs.MomentLaws.{Away}
 
@@ -36,7 +37,7 @@ module _ (setting : Setting) (job : Job) (sound : SoundJob job) (j n : ℕ) (see
       (finished-rest job j (sinceWindow job n seen) (periodsBegun job n) (sound .c .low) short (job .k)
       (begun-high (job .t) (job .k) n (sound .t .low) (sound .k .low)))
 
-  finished-is :
+  pub finished-is :
       (q : Place) → Worked setting job j n seen q → finishedOf setting q ≡ finished setting job j n seen
   unfolding finishedOf finished
   finished-is q told = go (byUnits setting) refl
@@ -77,6 +78,9 @@ module _
           u-is = told .u-is;
           s-is = told .s-is;
         }
+
+    pub finished-told : finishedOf setting q ≡ finished setting job j n seen
+    finished-told = finished-is setting job sound j n seen q worked
 
     owed-told : owedOf setting q ≡ owed setting job j n seen
     owed-told = owed-is setting job sound j n seen q worked

@@ -1,6 +1,6 @@
 -- The run of a list from its fresh state, slot by slot: its places, its answers and its totals are those that the rules say of its choices.
 use mathlib.Core.Path.{_≡_, refl, sym, ap, subst, _∙_}
-use mathlib.Core.Bool.{Bool, true, false, cond}
+use mathlib.Core.Bool.{Bool, true, false, _||_, cond}
 use mathlib.Core.Logic.{Iff·trans}
 use mathlib.Core.List.{List, [], _∷_, _++_}
 use Prim.Native.Nat.{ℕ, zero, suc, _+_, _*_, _≤_, _<_}
@@ -12,6 +12,7 @@ use Rattle.job.specs.declared.list.JobList.{JobList}
 use Rattle.job.specs.Sound.{SoundList}
 use Rattle.place.specs.declared.setting.Setting.{Setting}
 use Rattle.place.specs.Sound.{Allowed, SoundPlace}
+use Rattle.place.proofs.TagLaws.{Untagged, untagged-opened, untagged-next}
 use Rattle.run.specs.declared.state.State.{State}
 use Rattle.run.specs.State.{clockMost, placeAt, freshOf}
 use Rattle.run.specs.Slot.{countUpto, allMoved, turnOf}
@@ -22,14 +23,14 @@ use Rattle.run.proofs.SlotLaws.{mask-exactly, count-is}
 use Rattle.run.proofs.HereLaws.{at, job-sound}
 use Rattle.run.proofs.ChoiceLaws.{given-exactly, idle-exactly}
 use Rattle.run.proofs.TurnLaws.{nextByte, byte-fair, turn-given, turn-idle, turn-tags, turn-shorts, turn-place}
-use Rattle.run.proofs.RunLaws.{after-setting, after-count, after-sound, choices-more, choices-long, choices-take, choice-at}
+use Rattle.run.proofs.RunLaws.{after-setting, after-count, after-sound, choices-more, choices-long, choices-take}
 use Rattle.run.specs.SlotMeaning.{howMany}
-use Rattle.rules.specs.Rules.{countIn, idleByte, jobOf, tagged, firstTags, endsShort}
+use Rattle.rules.specs.Rules.{countIn, idleByte, jobOf, tags, tagged, firstTags, endsShort}
 use Rattle.rules.specs.Meaning.{sumUpto, SlotTold}
 use Rattle.rules.proofs.BytesLaws.{countIn-none, countIn-more}
 use Rattle.rules.proofs.HistoryLaws.{PlaceHistory, history-starts, history-goes-on}
 use Rattle.rules.proofs.ChoiceLaws.{chosen-picks, none-idles}
-use Rattle.rules.proofs.SetLaws.{Before, first-here, short-here, tag-next}
+use Rattle.rules.proofs.SetLaws.{Before, first-here, short-here, short-tags, tag-next}
 
 -- a total that grows by one in each slot whose byte has a property counts the bytes
 module _ (s : State) (sound : SoundState s) where
@@ -89,6 +90,17 @@ module _ (l : JobList) (setting : Setting) (jobs : SoundList l) (allowed : Allow
       (rw (after-setting fresh n) (places-told n (omega arith) i h))
       (rw (after-setting fresh n) (place-sound n (omega arith) i h)) (choices-long fresh n) (nextByte now) (byte-fair now sound i inside)))
 
+  -- while a job has no tag in its window, it lacks no more instances than the window has slots
+  pub untagged-after : (n : ℕ) → n ≤ clockMost → (i : ℕ) → i < l .count → Untagged setting (at (after n) i)
+  unfolding afterSlots
+  untagged-after zero high i h = rw (fresh-listed l setting (jobs .count .high) i h) (untagged-opened setting (jobOf l i) (jobs .jobs i h))
+  untagged-after (suc n) high i h =
+      let now : State = after n in
+      subst (λ (x : Setting). Untagged x (placeAt (turnOf now .state .places) i)) (after-setting fresh n)
+      (rw (turn-place now (sound-after n (omega arith)) i (omega (arith, after-count fresh n)))
+      (untagged-next (rw (after-setting fresh n) (place-sound n (omega arith) i h)) (eqb (nextByte now) i)
+      (rw (after-setting fresh n) (untagged-after n (omega arith) i h))))
+
   pub given-after : (n : ℕ) → n ≤ clockMost → after n .totals .given ≡ countIn (λ b. ltb b (l .count)) (choicesOf fresh n)
   given-after n high =
       counted fresh starts-sound (λ x. x .totals .given) (λ b. ltb b (l .count))
@@ -123,7 +135,6 @@ module _ (l : JobList) (setting : Setting) (jobs : SoundList l) (allowed : Allow
                 jobs-sound = λ i below. rw (after-setting fresh n) (place-sound n (omega arith) i below);
                 places = λ i below. rw (after-setting fresh n) (places-told n (omega arith) i below);
               });
-          byte = choice-at fresh idleByte N n h;
           more = choices-take fresh (n + 1) N (omega arith) ∙ choices-more fresh n ∙ ap (_++ nextByte (after n) ∷ []) (sym first);
           tag = λ i below. rw (after-setting fresh n) (tag i below);
         }
@@ -160,6 +171,13 @@ module _ (l : JobList) (setting : Setting) (jobs : SoundList l) (allowed : Allow
 
       pub slot-told : SlotTold l setting bytes n (turnOf now .slot)
       slot-told = subst (λ (x : Setting). SlotTold l x bytes n (turnOf now .slot)) (after-setting fresh n) slot-at
+
+      -- a window that ends short has its tag
+      pub short-has-tag :
+          (i : ℕ) → i < l .count → endsShort l setting bytes n i ≡ true → (tags l setting bytes n i || tagged l setting bytes n i) ≡ true
+      short-has-tag i listed =
+          subst (λ (x : Setting). endsShort l x bytes n i ≡ true → (tags l x bytes n i || tagged l x bytes n i) ≡ true) (after-setting fresh n)
+          (short-tags l jobs bytes n now (before n h) i listed (rw (after-setting fresh n) (untagged-after n (omega arith) i listed)))
 
       -- a set of the slot has as many jobs as its rule
       sized :

@@ -1,20 +1,23 @@
 -- The sets of a slot's answer, and the tag that a place keeps, are those that the rules say.
-use mathlib.Core.Path.{_≡_, refl, sym, ap, ap₂, _∙_}
+use mathlib.Core.Path.{_≡_, refl, sym, ap, ap₂, subst, _∙_}
 use mathlib.Core.Bool.{Bool, true, false, _&&_, _||_, not, cond}
 use mathlib.Core.List.{List, [], _∷_, _++_}
 use Prim.Native.Nat.{ℕ, suc, _+_, _*_, _%_, _<_}
-use native.Mathlib.Nat.{mod-le}
+use native.Mathlib.Nat.{le-refl, mod-le}
 use native.Mathlib.Numerals.{add-one}
 use native.Mathlib.Omega.{arith}
 use lib.Dec.{eqb, ltb}
-use lib.ListN.{getD, take}
-use borrow.Author.Tests.{lt-ltb}
+use lib.ListN.{take}
+use borrow.Author.Tests.{lt-ltb, le-ltb}
 use Rattle.job.specs.declared.record.Job.{Job}
 use Rattle.job.specs.declared.list.JobList.{JobList}
 use Rattle.job.specs.Sound.{SoundList}
 use Rattle.place.specs.declared.setting.Setting.{Setting}
 use Rattle.place.specs.declared.record.Place.{Place}
-use Rattle.place.specs.Place.{owedOf, tagsOf, firstTagged, workedOf, shortOf, turnedOf, movedOf}
+use Rattle.place.specs.Place.{finishedOf, finishesOf, tagsOf, firstTagged, workedOf, shortOf, turnedOf, movedOf}
+use Rattle.place.specs.Sound.{SoundPlace}
+use Rattle.place.proofs.CycleLaws.{cycle-goes-on, cycle-ends}
+use Rattle.place.proofs.TagLaws.{Untagged, finished-worked, short-tagged}
 use Rattle.place.proofs.CounterLaws.{Served, worked, worked-tag, worked-ends, turned-on, turned-period, turned-window}
 use Rattle.run.specs.declared.state.State.{State}
 use Rattle.run.specs.State.{placeAt}
@@ -23,21 +26,25 @@ use Rattle.run.specs.Slot.{tagsAt, shortsAt, turnOf}
 use Rattle.run.proofs.HereLaws.{at}
 use Rattle.run.proofs.TurnLaws.{nextByte, byte-at, byte-fair, turn-place}
 use Rattle.run.specs.SlotMeaning.{howMany}
-use Rattle.rules.specs.Rules.{idleByte, windowStart, owed, jobOf, tags, tagged, firstTags, endsShort}
-use Rattle.rules.proofs.CycleLaws.{Tick, nothing-ends, period-ends, window-ends, cycle-goes-on, cycle-ends, tick}
-use Rattle.rules.proofs.HistoryLaws.{PlaceHistory, history-worked}
-use Rattle.rules.proofs.PlaceLaws.{owed-is, overdue-told, ends-told}
+use Rattle.rules.specs.Rules.{windowStart, jobOf, finishes, tags, tagged, firstTags, endsShort}
+use Rattle.rules.proofs.CycleLaws.{Tick, nothing-ends, period-ends, window-ends, tick}
+use Rattle.rules.proofs.HistoryLaws.{PlaceHistory, Worked, history-worked}
+use Rattle.rules.proofs.PlaceLaws.{finished-is, owed-is, finished-told, overdue-told, ends-told}
 use Rattle.rules.proofs.ChoiceLaws.{Told, here}
 
 -- a count of one number more is above 0 if it was, or if that number counts
-some-more : (b : Bool) (h : ℕ) → ltb 0 (cond b (h + 1) h) ≡ (b || ltb 0 h)
+pub some-more : (b : Bool) (h : ℕ) → ltb 0 (cond b (h + 1) h) ≡ (b || ltb 0 h)
 some-more true h = lt-ltb 0 (h + 1) (omega arith)
 some-more false h = refl
+
+-- one more is more
+more-is : (b : Bool) (h : ℕ) → b ≡ ltb h (cond b (h + 1) h)
+more-is true h = sym (lt-ltb h (h + 1) (omega arith))
+more-is false h = sym (le-ltb h h (le-refl h))
 
 -- a state before slot n of the bytes, whose own byte is the slot's choice
 pub record Before (l : JobList) (bytes : List ℕ) (n : ℕ) (s : State) : Type 0 where
   pub told : Told l n (take n bytes) s
-  pub byte : getD bytes n idleByte ≡ nextByte s
   pub more : take (n + 1) bytes ≡ take n bytes ++ nextByte s ∷ []
   pub tag : (i : ℕ) → i < l .count → at s i .at .tag ≡ tagged l (s .setting) bytes n i
 
@@ -60,17 +67,33 @@ module _ (l : JobList) (jobs : SoundList l) (bytes : List ℕ) (n : ℕ) (s : St
   history : PlaceHistory setting job i n (take n bytes) q
   history = before .told .places i listed
 
+  place : SoundPlace setting q
+  place = before .told .jobs-sound i listed
+
   byte-is : eqb (nextByte s) i ≡ chosen
   byte-is = byte-at s (before .told .sound) i inside
+
+  -- the place when its slot was given, or not
+  abbrev given : Place
+  given = workedOf setting q chosen
+
+  given-told : Worked setting job i n (take (n + 1) bytes) given
+  given-told =
+      subst (λ (c : Bool). Worked setting job i n (take (n + 1) bytes) (workedOf setting q c)) byte-is
+      (rw (before .more)
+      (history-worked setting job i n (take n bytes) q history place (before .told .long) (nextByte s) (byte-fair s (before .told .sound) i inside)))
+
+  finishes-here : (chosen && finishesOf setting q) ≡ finishes l setting bytes n i
+  finishes-here =
+      more-is (chosen && finishesOf setting q) (finishedOf setting q)
+      ∙ ap₂ ltb (finished-told setting job i n (take n bytes) q history place (jobs .jobs i listed) (before .told .long))
+      (sym (finished-worked place chosen) ∙ finished-is setting job (jobs .jobs i listed) i n (take (n + 1) bytes) given given-told)
 
   tags-here : tagsOf setting q chosen ≡ tags l setting bytes n i
   unfolding tags tagsOf
   tags-here =
-      rw (
-        before .byte,
-        byte-is,
-        overdue-told setting job i n (take n bytes) q history (before .told .jobs-sound i listed) (jobs .jobs i listed) (before .told .long),
-      )
+      ap₂ (λ (late done : Bool). late && not done)
+      (overdue-told setting job i n (take n bytes) q history place (jobs .jobs i listed) (before .told .long)) finishes-here
 
   pub first-here : tagsAt setting (s .places) (chosenOf s) i ≡ firstTags l setting bytes n i
   unfolding movedOf firstTagged
@@ -80,18 +103,10 @@ module _ (l : JobList) (jobs : SoundList l) (bytes : List ℕ) (n : ℕ) (s : St
   unfolding movedOf shortOf endsShort
   short-here =
       ap₂ (λ (a : Bool) (b : ℕ). a && ltb 0 b)
-      (worked-ends setting q chosen
-      ∙ ends-told setting job i n (take n bytes) q history (before .told .jobs-sound i listed) (jobs .jobs i listed) (before .told .long))
-      (ap (λ (c : Bool). owedOf setting (workedOf setting q c)) (sym byte-is)
-      ∙ owed-is setting job (jobs .jobs i listed) i n (take n bytes ++ nextByte s ∷ []) (workedOf setting q (eqb (nextByte s) i))
-      (history-worked setting job i n (take n bytes) q history (before .told .jobs-sound i listed) (before .told .long) (nextByte s)
-      (byte-fair s (before .told .sound) i inside))
-      ∙ ap (owed setting job i n) (sym (before .more)))
+      (worked-ends setting q chosen ∙ ends-told setting job i n (take n bytes) q history place (jobs .jobs i listed) (before .told .long))
+      (owed-is setting job (jobs .jobs i listed) i n (take (n + 1) bytes) given given-told)
 
   -- the tag one slot on
-  abbrev given : Place
-  given = workedOf setting q chosen
-
   abbrev window : ℕ
   window = job .k * job .t
 
@@ -109,6 +124,13 @@ module _ (l : JobList) (jobs : SoundList l) (bytes : List ℕ) (n : ℕ) (s : St
 
   given-tag : given .at .tag ≡ (tags l setting bytes n i || q .at .tag)
   given-tag = worked-tag setting q chosen ∙ ap (_|| q .at .tag) tags-here
+
+  -- 'A window that ends untagged is not short', by the rules
+  pub short-tags :
+      Untagged setting q → endsShort l setting bytes n i ≡ true → (tags l setting bytes n i || tagged l setting bytes n i) ≡ true
+  unfolding movedOf
+  short-tags fits short =
+      ap (tags l setting bytes n i ||_) (sym (before .tag i listed)) ∙ sym given-tag ∙ short-tagged place chosen fits (short-here ∙ short)
 
   pub tag-next : placeAt (turnOf s .state .places) i .at .tag ≡ tagged l setting bytes (suc n) i
   unfolding movedOf

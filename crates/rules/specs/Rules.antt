@@ -127,11 +127,16 @@ module _ (l : JobList) (setting : Setting) (bytes : List ℕ) where
   abbrev pub Follows : Type 0
   Follows = (n : ℕ) → n < length bytes → Chooses l setting n (take n bytes) (getD bytes n idleByte)
 
-  -- 'Tag each job, other than the one chosen, that had m' > 0 before the slot and whose virtual deadline .. is at most the slot number + 1'
+  -- slot n finishes an instance of job j: with it there are more than without it. It is then the slot's choice
+  abbrev pub finishes : ℕ → ℕ → Bool
+  finishes n j = ltb (finished setting (jobOf l j) j n (take n bytes)) (finished setting (jobOf l j) j n (take (n + 1) bytes))
+
+  -- 'm' > 0 before the slot and whose virtual deadline .. is at most the slot number + 1' (01); 'the job chosen too, unless it finishes an
+  -- instance in that slot' (02, Item 2)
   unfoldable pub tags : ℕ → ℕ → Bool
   tags n j =
       let d = virtualDeadline setting (jobOf l j) j n (take n bytes) in
-      not (eqb (getD bytes n idleByte) j) && (ltb 0 (d .den) && leb (d .num) ((n + 1) * d .den))
+      (ltb 0 (d .den) && leb (d .num) ((n + 1) * d .den)) && not (finishes n j)
 
   -- job j's tag before slot n: a slot of the open window has set it. 'first tagged in their window'
   unfoldable pub tagged : ℕ → ℕ → Bool

@@ -12,7 +12,7 @@ use Rattle.place.specs.declared.setting.Setting.{Setting}
 use Rattle.place.specs.declared.record.Place.{Place}
 use Rattle.place.specs.declared.inner.choice.Fraction.{Fraction}
 use Rattle.place.specs.Setting.{inOrderV}
-use Rattle.place.specs.Place.{windowLeft, leftOf, finishedOf, owedOf, eligibleOf, numeratorOf, overdueOf, tagsOf, firstTagged, withService, servedOf, givenOf, taggedOf, workedOf, windowEnds, shortOf, turnedOf, movedOf}
+use Rattle.place.specs.Place.{windowLeft, leftOf, finishedOf, owedOf, eligibleOf, numeratorOf, overdueOf, finishesOf, tagsOf, firstTagged, withService, servedOf, givenOf, taggedOf, workedOf, windowEnds, shortOf, turnedOf, movedOf}
 use Rattle.place.specs.Choice.{roomOf, takesSpare, virtualAway, windowAway, dueAway, nearerOf, noPlace}
 use Rattle.place.specs.Sound.{SoundPlace}
 use Rattle.place.proofs.CounterLaws.{worked-ends, turned-on, turned-period, turned-window}
@@ -25,7 +25,7 @@ use Rattle.run.specs.declared.answer.StepAnswer.the-variants.{Done}
 use Rattle.run.specs.Choice.{chosenOf}
 use Rattle.run.specs.Slot.{choiceOf, tagsAt, shortsAt, allMoved, turnOf}
 use Rattle.run.specs.Sound.{SoundState}
-use Rattle.run.specs.SlotMeaning.{left, endsSooner, periodCloses, isRelaxed, owed, due, sooner, takes, late, served, onward, isGiven, placeOf, dueAt, takesAt, Picks, Idles, given, firstTags, endsShort, SlotDone, StepsSlot}
+use Rattle.run.specs.SlotMeaning.{left, endsSooner, periodCloses, isRelaxed, owed, due, sooner, takes, late, finishes, tags, served, onward, isGiven, placeOf, dueAt, takesAt, Picks, Idles, given, firstTags, endsShort, SlotDone, StepsSlot}
 use Rattle.run.proofs.HereLaws.{at, job-sound}
 use Rattle.run.proofs.BestLaws.{SameTest, SameOrder, picked-same, idle-same}
 use Rattle.run.proofs.ChoiceLaws.{NoCandidate, Chosen, given-idle, given-exactly, idle-exactly, eligibleAt, nearerAt, takesHere, endsHere, chosen-picked, none-picked}
@@ -61,6 +61,10 @@ module _ (setting : Setting) (q : Place) where
       (difference-most (windowLeft q) (q .at .e * m′) m′
       ∙ ap (leb (windowLeft q)) (let e : q .at .e * m′ + m′ ≡ (q .at .e + 1) * m′ = omega arith in e))
       ∙ rw (owed-is, left-is)
+
+  tags-is : (chosen : Bool) → tagsOf setting q chosen ≡ tags setting q chosen
+  unfolding tagsOf finishesOf tags finishes
+  tags-is chosen = rw late-is
 
   -- the period is not over, and so neither is the window
   gone-high : SoundPlace setting q → q .at .e ≤ left q
@@ -139,8 +143,8 @@ module _ (s : State) (sound : SoundState s) where
 
 module _ (setting : Setting) (q : Place) where
   served-is : (chosen : Bool) → workedOf setting q chosen ≡ served setting q chosen
-  unfolding workedOf givenOf tagsOf servedOf served
-  served-is chosen = rw (late-is setting q) (go chosen (isRelaxed setting))
+  unfolding workedOf givenOf servedOf served
+  served-is chosen = rw (tags-is setting q chosen) (go chosen (isRelaxed setting))
     where
       go :
           (given relaxed : Bool)
@@ -149,12 +153,12 @@ module _ (setting : Setting) (q : Place) where
           (cond relaxed (withService q (q .at .u + 1) (q .at .s) (q .at .v))
           (withService q (q .at .u) (cond (eqb (q .at .v + 1) (q .job .c)) (q .at .s + 1) (q .at .s)) (q .at .v + 1)))
           q)
-          (not given && late setting q)
+          (tags setting q chosen)
           ≡ taggedOf
           (withService q (cond (given && relaxed) (q .at .u + 1) (q .at .u))
           (cond (given && not relaxed && eqb (q .at .v + 1) (q .job .c)) (q .at .s + 1) (q .at .s))
           (cond (given && not relaxed) (q .at .v + 1) (q .at .v)))
-          (not given && late setting q)
+          (tags setting q chosen)
       go true true = refl
       go true false = refl
       go false relaxed = refl
@@ -215,12 +219,12 @@ module _ (s : State) (sound : SoundState s) where
     chosen-is =
         given-at (chosenOf s) i (omega (arith, sound .count .high)) ∙ ap (λ (c : Choice). isGiven c i) (sym choice-is)
 
-    worked-here : workedOf (s .setting) (at s i) (eqb i (chosenOf s)) ≡ given s choice i
+    pub worked-here : workedOf (s .setting) (at s i) (eqb i (chosenOf s)) ≡ given s choice i
     worked-here = served-is (s .setting) (at s i) (eqb i (chosenOf s)) ∙ ap (served (s .setting) (at s i)) chosen-is
 
     first-here : tagsAt (s .setting) (s .places) (chosenOf s) i ≡ firstTags s choice i
-    unfolding movedOf firstTagged tagsOf firstTags
-    first-here = rw (chosen-is, late-is (s .setting) (at s i))
+    unfolding movedOf firstTagged firstTags
+    first-here = rw (tags-is (s .setting) (at s i) (eqb i (chosenOf s)), chosen-is)
 
     short-here : shortsAt (s .setting) (s .places) (chosenOf s) i ≡ endsShort s choice i
     unfolding movedOf shortOf endsShort windowEnds

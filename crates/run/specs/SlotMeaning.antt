@@ -74,14 +74,22 @@ module _ (setting : Setting) where
   unfoldable pub late : Place → Bool
   late q = ltb 0 (owed q) && leb (left q) ((q .at .e + 1) * owed q)
 
-  -- 'Give the slot: one more unit to the job chosen', 'When v reaches C, s grows by one'; 'Tag each job, other than the one chosen, that ..'
+  -- a slot given finishes an instance: u + 1 is a multiple of C (relaxed); v + 1 is C (original)
+  unfoldable pub finishes : Place → Bool
+  finishes q = cond isRelaxed (eqb ((q .at .u + 1) % q .job .c) 0) (eqb (q .at .v + 1) (q .job .c))
+
+  -- 'Tag the job chosen too, unless it finishes an instance in that slot; the other conditions stay.' (02, Item 2)
+  unfoldable pub tags : Place → Bool → Bool
+  tags q given = late q && not (given && finishes q)
+
+  -- 'Give the slot: one more unit to the job chosen', 'When v reaches C, s grows by one'; then the tag
   unfoldable pub served : Place → Bool → Place
   served q given =
       let r = q .at in
       let u = cond (given && isRelaxed) (r .u + 1) (r .u) in
       let s = cond (given && not isRelaxed && eqb (r .v + 1) (q .job .c)) (r .s + 1) (r .s) in
       let v = cond (given && not isRelaxed) (r .v + 1) (r .v) in
-      record { job = q .job; at = record { e = r .e; p = r .p; u = u; s = s; v = v; tag = (not given && late q) || r .tag } }
+      record { job = q .job; at = record { e = r .e; p = r .p; u = u; s = s; v = v; tag = tags q given || r .tag } }
 
 -- 'At a period's end v becomes 0'; at a window's 'tag and service counters are cleared and p is 1.'
 unfoldable pub onward : Place → Place
@@ -122,7 +130,7 @@ module _ (s : State) where
     given = served (s .setting) (placeOf j) (isGiven choice j)
 
     unfoldable pub firstTags : Bool
-    firstTags = not (isGiven choice j) && late (s .setting) (placeOf j) && not (placeOf j .at .tag)
+    firstTags = tags (s .setting) (placeOf j) (isGiven choice j) && not (placeOf j .at .tag)
 
     unfoldable pub endsShort : Bool
     endsShort = windowCloses (placeOf j) && ltb 0 (owed (s .setting) given)

@@ -4,7 +4,7 @@ ghost use mathlib.Core.Bool.{true, false};
 ghost use lib.Dec.{ltb};
 ghost use Rattle.place.specs.Sound.{SoundPlace};
 ghost use Rattle.place.specs.Setting.{byUnits};
-ghost use Rattle.place.specs.Place.{finishedOf, owedOf, windowLeft, leftOf, eligibleOf, numeratorOf, overdueOf, tagsOf, firstTagged, servedOf, givenOf, taggedOf, windowEnds, turnedOf, shortOf, movedOf};
+ghost use Rattle.place.specs.Place.{finishedOf, owedOf, windowLeft, leftOf, eligibleOf, numeratorOf, overdueOf, finishesOf, tagsOf, firstTagged, servedOf, givenOf, taggedOf, windowEnds, turnedOf, shortOf, movedOf};
 ghost use Rattle.place.specs.Choice.{takesSpare, candidateOf};
 use crate::record::Place;
 use crate::record::Progress;
@@ -121,16 +121,32 @@ fn overdue(setting: Setting, q: Place) -> bool
     window_left(setting, q) + next * finished(setting, q) <= next * q.job.m
 }
 
+// Whether one more unit finishes an instance: what is begun, u mod C or v, lacks no other.
+fn finishes(setting: Setting, q: Place) -> bool
+    requires { ⌜ SoundPlace setting q ⌝ }
+    ensures { λ r. ⌜ r ≡ finishesOf setting q ⌝ }
+{
+    let begun = if by_units(setting) {
+        q.at.u % q.job.c
+    } else {
+        q.at.v
+    };
+    begun + 1 == q.job.c
+}
+
 // Whether the slot tags the place. While more than m periods are left, this one counted, no deadline
 // is that near.
 fn tags(setting: Setting, q: Place, chosen: bool) -> bool
     requires { ⌜ SoundPlace setting q ⌝ }
     ensures { λ r. ⌜ r ≡ tagsOf setting q chosen ⌝ }
 {
-    if chosen | (q.at.p + q.job.m <= q.job.k) {
+    if q.at.p + q.job.m <= q.job.k {
         return false;
     }
-    overdue(setting, q)
+    if overdue(setting, q) {
+        return !(chosen & finishes(setting, q));
+    }
+    false
 }
 
 // Whether it does so for the first time in the place's window.

@@ -1,7 +1,8 @@
-/* Filbertoss: admission and timetables of window-constrained jobs, for ground tools in C and C++.
+/* Filbertoss: admission and timetables of window-constrained jobs, and which of them can fall below
+ * their stated part, for ground tools in C and C++.
  *
  * Link with libentry.a, which `rt staticlib entry` writes to target/staticlib/ (x86-64 Linux).
- * Both functions are proved to return, for every argument, what is said here. They keep nothing
+ * The three functions are proved to return, for every argument, what is said here. They keep nothing
  * between calls, allocate nothing and may be called from several threads.
  *
  * A job is C (slots for one instance), T (slots in a period), m and k (at least m instances in
@@ -41,6 +42,10 @@
 
 /* The byte of a slot that no job got. */
 #define FILBERTOSS_IDLE 255
+
+/* Bytes of one job's answer, and its first short slot where no window ends short. */
+#define FILBERTOSS_BELOW_BYTES 12
+#define FILBERTOSS_NEVER 4294967295u
 
 #ifdef __cplusplus
 extern "C" {
@@ -89,6 +94,39 @@ uint32_t filbertoss_admit(const uint8_t *jobs, size_t jobs_len, uint32_t model);
  */
 uint32_t filbertoss_fill(const uint8_t *jobs, size_t jobs_len, uint32_t order, uint32_t model,
                          uint8_t *buf, size_t buf_len, size_t offset, size_t n);
+
+/* Which jobs can fall below their stated part, and how often: runs one cycle of the list from slot 0
+ * and writes 12 bytes a job, job after job, from buf[0] on. No other byte is written. The list need
+ * not be admitted. With spare 1 a slot that no job needs goes to a job that has its m and has more to
+ * do; with spare 0 it is idle.
+ *
+ *     byte 0 to 3     windows that the job has in a cycle: cycle / (k times T)
+ *     byte 4 to 7     how many of these end short
+ *     byte 8 to 11    the first slot in which one ends short, or FILBERTOSS_NEVER
+ * Each is a number of 32 bits, low byte first. The cycle is the one of refusal 8. A run repeats itself
+ * after a cycle, so this is the answer up to the clock's limit: q cycles have q times as many short
+ * windows, and a job that never falls below in one never does.
+ *
+ * Returns 0, or the number of the refusal; then no byte is written at all. The tests are made in
+ * this order, and the first that fails is returned:
+ *
+ *   14  jobs_len is not a multiple of 6
+ *   15  order, model or spare is not 0 or 1
+ *    1  no jobs
+ *    2  more than 16 jobs
+ *    3  T of a job is not allowed
+ *    4  C of a job is not allowed
+ *    5  k of a job is not allowed
+ *    6  m of a job is not allowed
+ *    8  the common cycle, the least common multiple of all k times T, is above 16,777,216
+ *   12  the buffer is too short: buf_len is below 12 times the jobs
+ *
+ * 3 to 6 speak of the lowest job at fault, T before C before k before m. A call runs up to 16,777,216
+ * slots, also where 12 is returned, unless the list is admitted and the setting is order W, relaxed:
+ * then no window ends short, and nothing is run.
+ */
+uint32_t filbertoss_below(const uint8_t *jobs, size_t jobs_len, uint32_t order, uint32_t model,
+                          uint32_t spare, uint8_t *buf, size_t buf_len);
 
 #ifdef __cplusplus
 }

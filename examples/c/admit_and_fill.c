@@ -1,4 +1,5 @@
-/* One second of the board, from C: is the list admitted, and who gets which slot?
+/* One second of the board, from C: is the list admitted, and who gets which slot? And in the binned
+ * mode, which job can fall below its stated part?
  *
  * Slots are 250 microseconds, so a second has 4,000. Build it as tests/gate/c-entry does:
  *     rt staticlib entry
@@ -26,6 +27,16 @@ static const struct job board[] = {
 
 #define JOBS (sizeof board / sizeof board[0])
 
+/* The binned mode, in which rows come faster: sheets/binned.txt. */
+static const struct job binned[] = {
+    {.c = 1, .t = 3, .m = 1, .k = 1},
+    {.c = 2, .t = 14, .m = 3, .k = 4},
+    {.c = 3, .t = 21, .m = 1, .k = 1},
+    {.c = 1, .t = 28, .m = 1, .k = 2},
+};
+
+#define BINNED (sizeof binned / sizeof binned[0])
+
 /* A job's six bytes: C and T low byte first, then m and k. */
 static void put_job(uint8_t *at, const struct job *job)
 {
@@ -35,6 +46,41 @@ static void put_job(uint8_t *at, const struct job *job)
     at[3] = (uint8_t)(job->t >> 8);
     at[4] = (uint8_t)job->m;
     at[5] = (uint8_t)job->k;
+}
+
+/* 32 bits, low byte first. */
+static unsigned long number_at(const uint8_t *at)
+{
+    return at[0] | (unsigned long)at[1] << 8 | (unsigned long)at[2] << 16 | (unsigned long)at[3] << 24;
+}
+
+/* Each job of the binned list, in window order with spare off. */
+static int show_binned(void)
+{
+    uint8_t jobs[BINNED * FILBERTOSS_JOB_BYTES], told[BINNED * FILBERTOSS_BELOW_BYTES];
+    uint32_t answer;
+    size_t i;
+
+    for (i = 0; i < BINNED; i++) {
+        put_job(jobs + i * FILBERTOSS_JOB_BYTES, &binned[i]);
+    }
+    answer = filbertoss_below(jobs, sizeof jobs, FILBERTOSS_ORDER_W, FILBERTOSS_RELAXED, 0, told,
+                              sizeof told);
+    if (answer != 0) {
+        printf("no answer: refusal %lu\n", (unsigned long)answer);
+        return 1;
+    }
+    printf("binned\n");
+    for (i = 0; i < BINNED; i++) {
+        const uint8_t *at = told + i * FILBERTOSS_BELOW_BYTES;
+        printf("job %lu %2lu of %2lu windows short", (unsigned long)i, number_at(at + 4), number_at(at));
+        if (number_at(at + 8) == FILBERTOSS_NEVER) {
+            printf(", never\n");
+        } else {
+            printf(", first in slot %lu\n", number_at(at + 8));
+        }
+    }
+    return 0;
 }
 
 int main(void)
@@ -85,5 +131,6 @@ int main(void)
         }
     }
     printf("\n");
-    return 0;
+
+    return show_binned();
 }

@@ -1,4 +1,5 @@
-// The header as C++: both entries are called by their C names, and case A of document 01 is filled.
+// The header as C++: the three entries are called by their C names, and case A of document 01 is
+// filled and asked about.
 #include "filbertoss.h"
 
 #include "filbertoss.h" // a second time: the include guard
@@ -18,6 +19,18 @@ int main()
     for (int i = 0; i < 6; i++) {
         if (got[i] != want[i]) {
             return 3;
+        }
+    }
+    // cycle 12: 3 windows of 4 slots and 2 of 6, none of them short
+    const uint8_t told[2 * FILBERTOSS_BELOW_BYTES] = {3, 0, 0, 0, 0, 0, 0, 0, 255, 255, 255, 255,
+                                                      2, 0, 0, 0, 0, 0, 0, 0, 255, 255, 255, 255};
+    uint8_t below[2 * FILBERTOSS_BELOW_BYTES] = {0};
+    if (filbertoss_below(jobs, sizeof jobs, FILBERTOSS_ORDER_W, FILBERTOSS_RELAXED, 0, below, sizeof below) != 0) {
+        return 4;
+    }
+    for (unsigned i = 0; i < sizeof below; i++) {
+        if (below[i] != told[i]) {
+            return 5;
         }
     }
     return 0;

@@ -1,9 +1,10 @@
-/* Hostile arguments, handed to both entries through include/filbertoss.h.
+/* Hostile arguments, handed to the three entries through include/filbertoss.h.
  *
  * What each call must return is computed here from document 01 alone. Job bytes end where a page
  * begins that must not be touched. The buffer stands between canaries, all filled with a pattern
  * that no choice can be: after a refusal every byte is compared, and after a success every byte
- * outside of offset to offset + n, while those between must name a job or be idle.
+ * outside of offset to offset + n, while those between must name a job or be idle. What is said of
+ * short windows is compared with the choices of a fill of one cycle.
  *
  * Ends with a count of the calls, or at the first failure with its arguments and status 1.
  */
@@ -20,6 +21,9 @@
 #define JOBS_MOST 24
 #define CANARY 64
 #define BUF_MOST 300
+#define ANSWER FILBERTOSS_BELOW_BYTES
+#define CYCLE_MOST 16777216
+#define RUN_MOST 4000 /* slots of the cycles that are run here often */
 #define COUNT(a) (sizeof(a) / sizeof((a)[0]))
 
 /* ---- What document 01 says. ---- */
@@ -61,10 +65,26 @@ static uint64_t divisor(uint64_t a, uint64_t b)
     return a;
 }
 
+static uint64_t window_of(const uint8_t *job)
+{
+    return (uint64_t)k_of(job) * t_of(job);
+}
+
+/* The least common multiple of all kT, or some number above the limit. */
+static uint64_t cycle_of(const uint8_t *jobs, size_t jobs_len)
+{
+    uint64_t cycle = 1;
+    size_t i;
+    for (i = 0; i < jobs_len && cycle <= CYCLE_MOST; i += 6) {
+        cycle = cycle / divisor(cycle, window_of(jobs + i)) * window_of(jobs + i); /* it only grows */
+    }
+    return cycle;
+}
+
 /* 'Tests 14, 15, then the rows above': 1 to 6, 7, 8, 9. */
 static uint32_t admit_row(const uint8_t *jobs, size_t jobs_len, uint32_t model)
 {
-    uint64_t cycle = 1, load = 0;
+    uint64_t cycle, load = 0;
     uint32_t row;
     size_t i;
     if (jobs_len % 6 != 0) return 14;
@@ -72,14 +92,10 @@ static uint32_t admit_row(const uint8_t *jobs, size_t jobs_len, uint32_t model)
     row = list_row(jobs, jobs_len);
     if (row != 0) return row;
     if (model == 1) return 7;
+    cycle = cycle_of(jobs, jobs_len);
+    if (cycle > CYCLE_MOST) return 8;
     for (i = 0; i < jobs_len; i += 6) {
-        uint64_t window = (uint64_t)k_of(jobs + i) * t_of(jobs + i);
-        cycle = cycle / divisor(cycle, window) * window;
-        if (cycle > 16777216) return 8; /* it only grows */
-    }
-    for (i = 0; i < jobs_len; i += 6) {
-        uint64_t window = (uint64_t)k_of(jobs + i) * t_of(jobs + i);
-        load += (uint64_t)m_of(jobs + i) * c_of(jobs + i) * (cycle / window);
+        load += (uint64_t)m_of(jobs + i) * c_of(jobs + i) * (cycle / window_of(jobs + i));
     }
     return load > cycle ? 9 : 0;
 }
@@ -98,13 +114,27 @@ static uint32_t fill_row(const uint8_t *jobs, size_t jobs_len, uint32_t order, u
     return 0;
 }
 
+/* Tests 14, 15, 1 to 6, 8, 12; 15 also for a spare that is not 0 or 1. */
+static uint32_t below_row(const uint8_t *jobs, size_t jobs_len, uint32_t order, uint32_t model,
+                          uint32_t spare, size_t buf_len)
+{
+    uint32_t row;
+    if (jobs_len % 6 != 0) return 14;
+    if (order > 1 || model > 1 || spare > 1) return 15;
+    row = list_row(jobs, jobs_len);
+    if (row != 0) return row;
+    if (cycle_of(jobs, jobs_len) > CYCLE_MOST) return 8;
+    if (buf_len < jobs_len / 6 * 12) return 12;
+    return 0;
+}
+
 /* ---- One call, checked. ---- */
 
 struct call {
     const char *entry;
     const uint8_t *jobs;
     size_t jobs_len;
-    uint32_t order, model;
+    uint32_t order, model, spare;
     size_t buf_len, offset, n;
 };
 
@@ -115,9 +145,9 @@ static void fail(const struct call *a, const char *what, unsigned long want, uns
 {
     size_t i;
     printf("hostile: %s: %s: wanted %lu, got %lu\n", a->entry, what, want, got);
-    printf("  order %lu model %lu buf_len %zu offset %zu n %zu, %zu job bytes:",
-           (unsigned long)a->order, (unsigned long)a->model, a->buf_len, a->offset, a->n,
-           a->jobs_len);
+    printf("  order %lu model %lu spare %lu buf_len %zu offset %zu n %zu, %zu job bytes:",
+           (unsigned long)a->order, (unsigned long)a->model, (unsigned long)a->spare, a->buf_len,
+           a->offset, a->n, a->jobs_len);
     for (i = 0; i < a->jobs_len; i++) {
         printf(" %02x", a->jobs[i]);
     }
@@ -142,7 +172,7 @@ static void jobs_unchanged(const struct call *a, const uint8_t *at)
 
 static uint32_t try_admit(const uint8_t *jobs, size_t jobs_len, uint32_t model)
 {
-    struct call a = {"filbertoss_admit", jobs, jobs_len, 0, model, 0, 0, 0};
+    struct call a = {"filbertoss_admit", jobs, jobs_len, 0, model, 0, 0, 0, 0};
     const uint8_t *at = placed(jobs, jobs_len);
     uint32_t want = admit_row(jobs, jobs_len, model);
     uint32_t got = filbertoss_admit(at, jobs_len, model);
@@ -170,7 +200,7 @@ static uint32_t try_fill(const uint8_t *jobs, size_t jobs_len, uint32_t order, u
                          size_t buf_len, size_t offset, size_t n)
 {
     static uint8_t arena[CANARY + BUF_MOST + CANARY], twin[BUF_MOST];
-    struct call a = {"filbertoss_fill", jobs, jobs_len, order, model, buf_len, offset, n};
+    struct call a = {"filbertoss_fill", jobs, jobs_len, order, model, 0, buf_len, offset, n};
     const uint8_t *at = placed(jobs, jobs_len);
     size_t all = CANARY + buf_len + CANARY, i;
     uint32_t want = fill_row(jobs, jobs_len, order, model, buf_len, offset, n), got;
@@ -203,6 +233,85 @@ static uint32_t try_fill(const uint8_t *jobs, size_t jobs_len, uint32_t order, u
     return 0;
 }
 
+static unsigned long number_at(const uint8_t *at)
+{
+    return at[0] + 256ul * at[1] + 65536ul * at[2] + 16777216ul * at[3]; /* low byte first */
+}
+
+/* In the relaxed model, spare off: a window ends short if its job got fewer than m times C of its
+ * slots, by the choices of one cycle. */
+static void short_by_choices(const struct call *a, const uint8_t *at, const uint8_t *answers)
+{
+    static uint8_t choices[RUN_MOST];
+    uint64_t cycle = cycle_of(a->jobs, a->jobs_len), n;
+    size_t j;
+    if (filbertoss_fill(at, a->jobs_len, a->order, 0, choices, sizeof choices, 0, cycle) != 0) {
+        fail(a, "a fill of one cycle", 0, 1);
+    }
+    calls++;
+    for (j = 0; j < a->jobs_len / JOB; j++) {
+        const uint8_t *job = a->jobs + JOB * j;
+        unsigned long got = 0, count = 0, first = FILBERTOSS_NEVER;
+        for (n = 0; n < cycle; n++) {
+            got += choices[n] == j;
+            if ((n + 1) % window_of(job) != 0) continue;
+            if (got < (unsigned long)m_of(job) * c_of(job)) {
+                if (count == 0) first = n;
+                count++;
+            }
+            got = 0;
+        }
+        if (number_at(answers + ANSWER * j + 4) != count) {
+            fail(a, "short windows", count, number_at(answers + ANSWER * j + 4));
+        }
+        if (number_at(answers + ANSWER * j + 8) != first) {
+            fail(a, "first short slot", first, number_at(answers + ANSWER * j + 8));
+        }
+    }
+}
+
+static uint32_t try_below(const uint8_t *jobs, size_t jobs_len, uint32_t order, uint32_t model,
+                          uint32_t spare, size_t buf_len)
+{
+    static uint8_t arena[CANARY + BUF_MOST + CANARY];
+    struct call a = {"filbertoss_below", jobs, jobs_len, order, model, spare, buf_len, 0, 0};
+    const uint8_t *at = placed(jobs, jobs_len), *answers = arena + CANARY;
+    size_t all = CANARY + buf_len + CANARY, count = jobs_len / JOB, i;
+    uint32_t want = below_row(jobs, jobs_len, order, model, spare, buf_len), got;
+
+    for (i = 0; i < all; i++) {
+        arena[i] = pattern(i);
+    }
+    got = filbertoss_below(at, jobs_len, order, model, spare, arena + CANARY, buf_len);
+    calls++;
+    if (got != want) fail(&a, "number", want, got);
+    jobs_unchanged(&a, at);
+    if (got != 0) {
+        stays(&a, arena, 0, all);
+        return got;
+    }
+    stays(&a, arena, 0, CANARY);
+    stays(&a, arena, CANARY + ANSWER * count, all);
+    for (i = 0; i < count; i++) {
+        unsigned long windows = number_at(answers + ANSWER * i), few = number_at(answers + ANSWER * i + 4);
+        unsigned long first = number_at(answers + ANSWER * i + 8);
+        uint64_t cycle = cycle_of(jobs, jobs_len), window = window_of(jobs + JOB * i);
+        if (windows != cycle / window) fail(&a, "windows", (unsigned long)(cycle / window), windows);
+        if (few > windows) fail(&a, "short windows", windows, few);
+        if ((few == 0) != (first == FILBERTOSS_NEVER)) fail(&a, "never", few, first);
+        /* a window of kT slots ends with its last */
+        if (few != 0 && (first >= cycle || (first + 1) % window != 0)) fail(&a, "first short slot", few, first);
+        /* an admitted list, relaxed and in window order, is never short */
+        if (few != 0 && order == 1 && model == 0 && admit_row(jobs, jobs_len, 0) == 0) {
+            fail(&a, "an admitted list", 0, few);
+        }
+    }
+    if (model == 0 && spare == 0 && cycle_of(jobs, jobs_len) <= RUN_MOST) {
+        short_by_choices(&a, at, answers);
+    }
+    return 0;
+}
+
 /* ---- The arguments. ---- */
 
 static const uint32_t settings[] = {0, 1, 2, 3, 255, 256, 257, 0x7fffffff, 0x80000000, 0x80000001, 0xfffffffe, 0xffffffff};
@@ -225,7 +334,7 @@ static void good_list(uint8_t *jobs, size_t count)
     }
 }
 
-/* Both entries, in each setting, with room for the choices. */
+/* Two entries, in each setting, with room for the choices. */
 static void try_settings(const uint8_t *jobs, size_t jobs_len)
 {
     size_t o, m;
@@ -237,7 +346,20 @@ static void try_settings(const uint8_t *jobs, size_t jobs_len)
     }
 }
 
-/* Both entries, in the four settings that are allowed. */
+/* The third, with each number for one of order, model and spare. */
+static void try_below_settings(const uint8_t *jobs, size_t jobs_len, size_t buf_len)
+{
+    size_t i;
+    for (i = 0; i < COUNT(settings); i++) {
+        uint32_t x = settings[i];
+        try_below(jobs, jobs_len, x, 0, 0, buf_len);
+        try_below(jobs, jobs_len, 1, x, 0, buf_len);
+        try_below(jobs, jobs_len, 0, 1, x, buf_len);
+        try_below(jobs, jobs_len, x, x, x, buf_len);
+    }
+}
+
+/* Two entries, in the four settings that are allowed. */
 static void try_allowed(const uint8_t *jobs, size_t jobs_len)
 {
     uint32_t order, model;
@@ -264,6 +386,30 @@ static void lengths(void)
     }
 }
 
+/* Job bytes of every length to 200 with room for 16 answers and, of each list, a buffer of every
+ * length to 200. */
+static void below_lengths(void)
+{
+    uint8_t jobs[34 * JOB];
+    size_t len, count;
+    good_list(jobs, 34);
+    for (len = 0; len <= 200; len++) {
+        try_below_settings(jobs, len, 16 * ANSWER);
+        for (count = 1; count <= 16; count++) {
+            try_below(jobs, JOB * count, 1, 0, 1, len);
+        }
+    }
+    for (count = 1; count <= 16; count++) {
+        for (len = ANSWER * count - 1; len <= ANSWER * count + 1; len++) {
+            try_below_settings(jobs, JOB * count, len);
+        }
+    }
+    memset(jobs, 0xff, sizeof jobs);
+    for (len = 0; len <= 200; len++) {
+        try_below_settings(jobs, len, 16 * ANSWER);
+    }
+}
+
 /* Lists whose count would be small if it were cut to 8, 16 or 32 bits. Behind their first page is
  * address space that must not be touched. */
 static void long_lists(size_t page)
@@ -279,7 +425,7 @@ static void long_lists(size_t page)
     good_list(jobs, page / JOB);
     for (i = 0; i < COUNT(counts); i++) {
         for (extra = 0; extra < JOB; extra++) {
-            struct call a = {"a long list", jobs, 0, 1, 0, 4, 0, 4};
+            struct call a = {"a long list", jobs, 0, 1, 0, 0, 4, 0, 4};
             size_t jobs_len = JOB * counts[i] + extra;
             uint32_t want = extra != 0 ? 14 : 2, got;
             uint8_t buf[4] = {20, 21, 22, 23};
@@ -287,8 +433,10 @@ static void long_lists(size_t page)
             if (got != want) fail(&a, "admission", want, got);
             got = filbertoss_fill(jobs, jobs_len, 1, 0, buf, sizeof buf, 0, sizeof buf);
             if (got != want) fail(&a, "fill", want, got);
+            got = filbertoss_below(jobs, jobs_len, 1, 0, 0, buf, sizeof buf);
+            if (got != want) fail(&a, "short windows", want, got);
             if (memcmp(buf, "\24\25\26\27", sizeof buf) != 0) fail(&a, "a byte that was to stay", 0, 1);
-            calls += 2;
+            calls += 3;
         }
     }
     if (munmap(jobs, len) != 0) {
@@ -332,7 +480,7 @@ static void two_jobs_at_fault(void)
     unsigned f, g;
     for (f = 0; f < 4; f++) {
         for (g = 0; g < 4; g++) {
-            struct call a = {"two jobs at fault", jobs, sizeof jobs, 0, 0, 0, 0, 0};
+            struct call a = {"two jobs at fault", jobs, sizeof jobs, 0, 0, 0, 0, 0, 0};
             uint32_t got;
             good_list(jobs, 16);
             put(jobs + JOB * 5, faults[f][0], faults[f][1], faults[f][2], faults[f][3]);
@@ -378,11 +526,17 @@ static void nulls(void)
     static const size_t at[] = {0, 1, SIZE_MAX};
     uint8_t jobs[JOB];
     size_t o, n;
-    struct call a = {"null pointers", jobs, 0, 0, 0, 0, 0, 0};
+    struct call a = {"null pointers", jobs, 0, 0, 0, 0, 0, 0, 0};
     uint32_t got = filbertoss_admit(NULL, 0, 0);
     calls++;
     if (got != 1) fail(&a, "admission of no jobs", 1, got);
+    got = filbertoss_below(NULL, 0, 1, 0, 1, NULL, 0);
+    calls++;
+    if (got != 1) fail(&a, "short windows of no jobs", 1, got);
     good_list(jobs, 1);
+    got = filbertoss_below(jobs, JOB, 1, 0, 1, NULL, 0);
+    calls++;
+    if (got != 12) fail(&a, "short windows and no buffer", 12, got);
     for (o = 0; o < COUNT(at); o++) {
         for (n = 0; n < COUNT(at); n++) {
             uint32_t want = fill_row(jobs, JOB, 1, 0, 0, at[o], at[n]);
@@ -434,7 +588,7 @@ static void orders_of_tests(void)
                                     : set[s].row != 0  ? set[s].row
                                     : list[l].row != 0 ? list[l].row
                                                        : place[p].row;
-                    struct call a = {"order of tests", lists[l], jobs_len, set[s].order, set[s].model, len, place[p].offset, place[p].n};
+                    struct call a = {"order of tests", lists[l], jobs_len, set[s].order, set[s].model, 0, len, place[p].offset, place[p].n};
                     uint32_t by_rules = fill_row(lists[l], jobs_len, set[s].order, set[s].model, len, place[p].offset, place[p].n);
                     uint32_t got = filbertoss_fill(placed(lists[l], jobs_len), jobs_len, set[s].order, set[s].model, buf, len, place[p].offset, place[p].n);
                     calls++;
@@ -448,6 +602,57 @@ static void orders_of_tests(void)
         perror("hostile: munmap");
         exit(1);
     }
+}
+
+/* The same for the third entry: 14 before 15 before 1 to 6 before 8 before 12. */
+static void orders_of_below(void)
+{
+    static const struct { uint32_t row, order, model, spare; } set[] = {
+        {0, 1, 0, 0}, {0, 0, 1, 1}, {15, 2, 0, 0}, {15, 0, 2, 1}, {15, 1, 1, 2}, {15, 1, 0, 0xffffffff}, {15, 3, 4, 5}};
+    static const struct { uint32_t row; size_t len; } place[] = {{0, BUF_MOST}, {0, 2 * ANSWER}, {12, 2 * ANSWER - 1}, {12, 0}};
+    static const struct { uint32_t row, count; unsigned last[4]; } list[] = {
+        {0, 2, {2, 6, 1, 2}}, {1, 0, {0, 0, 0, 0}}, {2, 17, {0, 0, 0, 0}}, {3, 2, {0, 0, 0, 0}},
+        {4, 2, {0, 4096, 0, 0}}, {5, 2, {1, 1, 0, 0}}, {6, 2, {1, 1, 0, 255}}, {8, 3, {1, 4095, 1, 253}}};
+    uint8_t jobs[17 * JOB + 1];
+    size_t l, s, p, extra;
+    for (l = 0; l < COUNT(list); l++) {
+        good_list(jobs, 17);
+        put(jobs, 1, 4096, 1, 255);
+        jobs[17 * JOB] = 0;
+        if (list[l].row == 0) put(jobs, 1, 4, 1, 2);
+        if (list[l].count != 0) {
+            put(jobs + JOB * (list[l].count - 1), list[l].last[0], list[l].last[1], list[l].last[2], list[l].last[3]);
+        }
+        for (extra = 0; extra < 2; extra++) {
+            for (s = 0; s < COUNT(set); s++) {
+                for (p = 0; p < COUNT(place); p++) {
+                    size_t jobs_len = JOB * list[l].count + extra;
+                    uint32_t want = extra != 0         ? 14
+                                    : set[s].row != 0  ? set[s].row
+                                    : list[l].row != 0 ? list[l].row
+                                                       : place[p].row;
+                    struct call a = {"order of tests, below", jobs, jobs_len, set[s].order, set[s].model, set[s].spare, place[p].len, 0, 0};
+                    uint32_t got = try_below(jobs, jobs_len, set[s].order, set[s].model, set[s].spare, place[p].len);
+                    if (got != want) fail(&a, "row", want, got);
+                }
+            }
+        }
+    }
+}
+
+/* Cycles at the limit: the whole of one is run where the list is not admitted or the order is V. */
+static void long_cycles(void)
+{
+    uint8_t jobs[2 * JOB];
+    put(jobs, 1, 4095, 1, 1);
+    put(jobs + JOB, 1, 241, 1, 17); /* cycle 16,777,215 */
+    try_below(jobs, sizeof jobs, 1, 0, 1, sizeof jobs / JOB * ANSWER);
+    try_below(jobs, sizeof jobs, 0, 1, 1, sizeof jobs / JOB * ANSWER);
+    put(jobs, 4095, 4095, 1, 1);
+    try_below(jobs, sizeof jobs, 1, 0, 0, sizeof jobs / JOB * ANSWER);
+    put(jobs, 1, 257, 1, 97);
+    put(jobs + JOB, 1, 673, 1, 1); /* cycle 16,777,217 */
+    try_below(jobs, sizeof jobs, 0, 0, 0, sizeof jobs / JOB * ANSWER);
 }
 
 /* Rows 7, 8 and 9 of admission, each at its edge: C T m k. */
@@ -465,7 +670,7 @@ static void admission_edges(void)
     uint8_t jobs[3 * JOB];
     size_t e, i;
     for (e = 0; e < COUNT(edge); e++) {
-        struct call a = {"edges of admission", jobs, JOB * (size_t)edge[e].count, 0, 0, 0, 0, 0};
+        struct call a = {"edges of admission", jobs, JOB * (size_t)edge[e].count, 0, 0, 0, 0, 0, 0};
         uint32_t got;
         for (i = 0; i < edge[e].count; i++) {
             put(jobs + JOB * i, edge[e].jobs[i][0], edge[e].jobs[i][1], edge[e].jobs[i][2], edge[e].jobs[i][3]);
@@ -512,6 +717,11 @@ static void anything(unsigned long times)
         }
         try_admit(jobs, jobs_len, model);
         try_fill(jobs, jobs_len, order, model, buf_len, offset, n);
+        if (jobs_len % JOB != 0 || list_row(jobs, jobs_len) != 0 || cycle_of(jobs, jobs_len) <= RUN_MOST
+            || cycle_of(jobs, jobs_len) > CYCLE_MOST) {
+            uint32_t spare = draw(32) == 0 ? (uint32_t)draw(4294967296) : (uint32_t)draw(2);
+            try_below(jobs, jobs_len, order, model, spare, draw(2) == 0 ? buf_len : ANSWER * (jobs_len / JOB));
+        }
     }
 }
 
@@ -526,12 +736,15 @@ int main(void)
     jobs_end = room + page;
 
     lengths();
+    below_lengths();
     long_lists(page);
     limits();
     two_jobs_at_fault();
     places();
     nulls();
     orders_of_tests();
+    orders_of_below();
+    long_cycles();
     admission_edges();
     anything(100000);
 

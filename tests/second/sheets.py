@@ -7,10 +7,9 @@ that have no sheet: `encodable_jobs` and `job_bytes` give the bytes of the C ent
 
 import random
 import struct
-from functools import cache
-from math import lcm
+from functools import cache, partial
 
-from slots import MOST_BYTES, MOST_CYCLE, MOST_K, MOST_SLOTS, MOST_T, Job
+from slots import MOST_BYTES, MOST_CYCLE, MOST_K, MOST_SLOTS, MOST_T, Job, asked, check, cycle_of
 
 
 def draw(seed, number):
@@ -157,9 +156,9 @@ def wrapped_jobs(rng):
     """A cycle above 32 bits whose low 32 bits alone would be within the limit."""
     while True:
         jobs = [Job(1, MOST_T, 1, 128)]
-        while lcm(*(job.k * job.T for job in jobs)) < 1 << 32:
+        while cycle_of(jobs) < 1 << 32:
             jobs.append(Job(1, rng.randrange(1, MOST_T, 2), 1, rng.randrange(1, MOST_K, 2)))
-        if lcm(*(job.k * job.T for job in jobs)) % (1 << 32) <= MOST_CYCLE:
+        if cycle_of(jobs) % (1 << 32) <= MOST_CYCLE:
             return jobs
 
 
@@ -210,10 +209,65 @@ def any_jobs(rng):
     return kind(rng)
 
 
-def encodable_jobs(rng):
-    """A job list of any kind whose numbers fit into the bytes of the C entry."""
+# Most slots of a cycle that the second program is asked to run.
+MOST_RUN = 20_000
+
+
+def cycle_jobs(rng):
+    """1 to 16 jobs with a cycle of at most MOST_RUN slots, and a load on either side of it."""
+    cycle = pick(
+        rng,
+        (12, rng.choice((6, 12, 20, 24, 30, 36, 40, 48, 60))),
+        (8, rng.choice((72, 90, 96, 120, 168, 180, 210, 240, 360))),
+        (4, rng.choice((420, 504, 720, 840, 1260, 1680))),
+        (1, rng.choice((2310, 4096, 5040, 7560))),
+        (0.2, rng.choice((10_080, 16_384, 18_480, MOST_RUN))),
+    )
+    count = rng.choice((1, 2, 2, 3, 3, 4, 4, 5, 6, 8, 10, 13, 15, 16))
+    load = rng.choice((0.7, 0.9, 0.95, 1, 1, 1.05, 1.1, 1.2, 1.3, 1.6, 2))
+    longer = [(k, T) for k, T in windows(cycle) if k * T >= min(count, cycle)]
+    jobs = []
+    for _ in range(count):
+        k, T = rng.choice(longer)
+        units = max(1, round(load * k * T * rng.uniform(0.4, 1.6) / count))
+        m = rng.randint(1, min(k, units))
+        jobs.append(Job(min(T, max(1, units // m)), T, m, k))
+    return jobs
+
+
+def urgent_jobs(rng):
+    """Admitted, and in order V a job with many instances to come often leaves others short."""
+    cycle = rng.choice((12, 16, 20, 24, 30, 36, 40, 48, 60, 72, 96, 120, 240))
+    left, jobs = cycle - rng.randint(0, 2), []
+    for _ in range(rng.randint(2, 5)):
+        window = rng.choice([some for some in range(3, cycle) if cycle % some == 0])
+        C = rng.randint(1, 3)
+        if C * cycle // window < left:
+            jobs.append(Job(C, window, 1, 1))
+            left -= C * cycle // window
+    T = rng.choice([T for T in (1, 2, 3) if cycle % T == 0 and left >= T])
+    jobs.append(Job(T, T, left // T, cycle // T))
+    rng.shuffle(jobs)
+    return jobs
+
+
+def in_reach(jobs, most=MOST_RUN):
+    """Whether the second program can soon tell who falls below: few slots, or none at all."""
+    return check(jobs)[0] != 0 or not most < cycle_of(jobs) <= MOST_CYCLE
+
+
+def below_jobs(rng, most=MOST_RUN):
+    """A job list of any kind that is in reach; most have a cycle that is run."""
     while True:
-        jobs = any_jobs(rng)
+        jobs = pick(rng, (10, cycle_jobs), (5, urgent_jobs), (9, any_jobs))(rng)
+        if in_reach(jobs, most):
+            return jobs
+
+
+def encodable_jobs(rng, some_jobs=any_jobs):
+    """One of these job lists whose numbers fit into the bytes of the C entry."""
+    while True:
+        jobs = some_jobs(rng)
         if all(max(C, T) < 1 << 16 and max(m, k) < 1 << 8 for C, T, m, k in jobs):
             return jobs
 
@@ -256,9 +310,9 @@ def written(order, model, slots, spare, jobs):
     return first_line(order, model, slots, spare) + b"".join(line(*job) for job in jobs)
 
 
-def formed(rng):
-    """A sheet of the stated form; its numbers may be refused."""
-    jobs = any_jobs(rng)
+def formed(rng, some_jobs=any_jobs):
+    """A sheet of the stated form with one of these lists; its numbers may be refused."""
+    jobs = some_jobs(rng)
     order, model, slots = rng.choice("VW"), rng.choice("RO"), slot_count(rng, jobs)
     return written(order, model, slots, rng.random() < 0.5, jobs)
 
@@ -384,9 +438,9 @@ DAMAGES = (
 )
 
 
-def damaged(rng):
+def damaged(rng, some_jobs=any_jobs):
     """A sheet with one or more pieces of damage; some are of the form again."""
-    sheet = formed(rng)
+    sheet = formed(rng, some_jobs)
     for _ in range(rng.choice((1, 1, 1, 1, 2, 3))):
         sheet = rng.choice(DAMAGES)(rng, sheet)
     return sheet
@@ -442,3 +496,33 @@ def long(rng):
 def sheet(rng):
     """A sheet of any of these kinds."""
     return pick(rng, (50, formed), (38, damaged), (4, bare), (8, long))(rng)
+
+
+def below_sheet(rng):
+    """A sheet for `below`: fewer are damaged, and what is left of a list is in reach."""
+    whole, spoilt = partial(formed, some_jobs=below_jobs), partial(damaged, some_jobs=below_jobs)
+    while True:
+        sheet = pick(rng, (70, whole), (24, spoilt), (2, bare), (4, long))(rng)
+        refusal, it = asked(sheet)
+        if refusal or in_reach(it.jobs):
+            return sheet
+
+
+# --- What is drawn --------------------------------------------------------------
+
+
+def kind(sheet, printed):
+    """The row of a refusal; else the verdict and, of `below`, the order and who falls below."""
+    lines = printed.decode("ascii").splitlines()
+    first, last = lines[0].split(), lines[-1].split()
+    if first[0] == "refused":
+        return " ".join(first[:2])
+    verdict = " ".join(first[4:])
+    return verdict if last[0] == "given" else f"{sheet[:1].decode()} {verdict}: {fallen(last)}"
+
+
+def fallen(last):
+    """Which jobs fall below, by the words of the last line of `below`."""
+    if last[1] != "of":
+        return "none" if last[0] == "no" else "not run"
+    return "all" if last[0] == last[2] else "some"

@@ -50,6 +50,11 @@ def check(jobs):
     return 0, None
 
 
+def cycle_of(jobs):
+    """ "The cycle H is the least common multiple of all kT." """
+    return lcm(*(k * T for C, T, m, k in jobs))
+
+
 def admission(jobs, model):
     """(row or 0, job at fault or None, cycle, load)."""
     # "it tests 15 for the model, 1, 2, then 3 to 6 as just said, 7, 8, 9.  Cycle and
@@ -61,8 +66,7 @@ def admission(jobs, model):
         return row, fault, 0, 0
     if model == ORIGINAL:
         return 7, None, 0, 0
-    # "The cycle H is the least common multiple of all kT."
-    cycle = lcm(*(k * T for C, T, m, k in jobs))
+    cycle = cycle_of(jobs)
     if cycle > MOST_CYCLE:
         return 8, None, 0, 0
     # "The load is the sum over jobs of m times C times H/(kT)."
@@ -93,6 +97,7 @@ class History:
         self.model = model
         self.choices = bytearray()
         self.counted = {}
+        self.views = {}
 
     def finished(self, number, window):
         """Instances of a job finished so far in its window from slot `window`."""
@@ -117,6 +122,15 @@ class History:
         # "Its window is k times T slots; windows do not overlap."
         window = now - now % (k * T)
         period = now - now % T
+        # Within a period a view changes only with the slots given, and is kept, for speed alone.
+        key = number, period, self.choices.count(number, window)
+        if key not in self.views:
+            self.views[key] = self.viewed(number, window, period)
+        return self.views[key]
+
+    def viewed(self, number, window, period):
+        """A job in the window and the period that began there."""
+        C, T, m, k = self.jobs[number]
         p = (period - window) // T + 1
         done = self.finished(number, window)
         if self.model == RELAXED:
@@ -164,16 +178,16 @@ def run(jobs, order, model, slots, spare=False):
             # "Tag each job [...] that had m' > 0 before the slot and whose virtual deadline,
             # from the values before the slot, is at most the slot number + 1."
             late = it.deadline is not None and it.deadline <= now + 1
-            # "Tag the job chosen too, unless it finishes an instance in that slot"
-            finished = history.finished(number, it.window)
-            finishes = number == choice and finished > it.finished
             # "the set of jobs first tagged in their window"
-            if late and not finishes and (number, it.window) not in tagged:
-                tagged.add((number, it.window))
-                tags.append(number)
+            if late and (number, it.window) not in tagged:
+                # "Tag the job chosen too, unless it finishes an instance in that slot"
+                if number != choice or history.finished(number, it.window) == it.finished:
+                    tagged.add((number, it.window))
+                    tags.append(number)
             # "A window is short exactly if it ends with m' > 0."
-            if it.window_end == now + 1 and finished < history.jobs[number].m:
-                shorts.append(number)
+            if it.window_end == now + 1:
+                if history.finished(number, it.window) < history.jobs[number].m:
+                    shorts.append(number)
         answers.append((choice, tags, shorts))
     return answers
 
@@ -219,30 +233,52 @@ def read(sheet):
 VERDICTS = {0: "admitted", 9: "over", 8: "cycle too long", 7: "not judged"}
 
 
-def lines(sheet):
-    """The lines printed for a sheet, without their line feeds."""
+class Asked(NamedTuple):
+    """What a sheet asks for that is not refused."""
+
+    order: int
+    model: int
+    slots: int
+    spare: bool
+    jobs: list
+
+
+def asked(sheet):
+    """(the line of the refusal or None, what is asked or None)."""
     # "Tests 17, 13, 16, 1 to 6."; "A refusal prints only "refused N", with " job J"
     # for 3 to 6 or " at P" for 13."
     if len(sheet) > MOST_BYTES:
-        return ["refused 17"]
+        return "refused 17", None
     place, matches = read(sheet)
     if place is not None:
-        return [f"refused 13 at {place}"]
+        return f"refused 13 at {place}", None
     order, model, slots, spare = matches[0].groups()
     order, model, slots = b"VW".index(order), b"RO".index(model), int(slots)
     jobs = [Job(*map(int, match.groups())) for match in matches[1:]]
     if not 1 <= slots <= MOST_SLOTS:
-        return ["refused 16"]
+        return "refused 16", None
     row, fault = check(jobs)
     if row:
-        return [f"refused {row}" + (f" job {fault}" if row >= 3 else "")]
-    # "the numbers are those returned, so 0 and 0 in the last two; the slots are run in
-    # each case"
+        return f"refused {row}" + (f" job {fault}" if row >= 3 else ""), None
+    return None, Asked(order, model, slots, spare is not None, jobs)
+
+
+def admission_line(jobs, model):
+    # "the numbers are those returned, so 0 and 0 in the last two"
     row, fault, cycle, load = admission(jobs, model)
-    out = [f"cycle {cycle} load {load} {VERDICTS[row]}"]
+    return f"cycle {cycle} load {load} {VERDICTS[row]}"
+
+
+def lines(sheet):
+    """The lines printed for a sheet, without their line feeds."""
+    refusal, it = asked(sheet)
+    if refusal:
+        return [refusal]
+    # "the slots are run in each case"
+    out = [admission_line(it.jobs, it.model)]
     # "slot number, job or -, then t and number for each first tag, s and number for
     # each short window, each after a space, ascending"
-    answers = run(jobs, order, model, slots, spare is not None)
+    answers = run(it.jobs, it.order, it.model, it.slots, it.spare)
     for slot, (choice, tags, shorts) in enumerate(answers):
         words = [str(slot), "-" if choice is None else str(choice)]
         words += [f"t{number}" for number in tags] + [f"s{number}" for number in shorts]
@@ -251,15 +287,19 @@ def lines(sheet):
     idle = sum(choice is None for choice, _, _ in answers)
     tagged = sum(len(tags) for _, tags, _ in answers)
     short = sum(len(shorts) for _, _, shorts in answers)
-    out.append(f"given {slots - idle} idle {idle} tagged {tagged} short {short}")
+    out.append(f"given {it.slots - idle} idle {idle} tagged {tagged} short {short}")
     return out
 
 
-def output(sheet):
-    """What the program prints for the bytes on its standard input."""
+def output(sheet, lines=lines):
+    """What the program with these lines prints for the bytes on its standard input."""
     return "".join(line + "\n" for line in lines(sheet)).encode("ascii")
 
 
-if __name__ == "__main__":
+def main(output):
     # One byte over the limit is enough to see that the sheet is over it.
     sys.stdout.buffer.write(output(sys.stdin.buffer.read(MOST_BYTES + 1)))
+
+
+if __name__ == "__main__":
+    main(output)

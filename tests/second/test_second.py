@@ -4,9 +4,12 @@ Plain Python: `python3 test_second.py` prints a count and fails with status 1.
 """
 
 import sys
+from functools import partial
+from itertools import permutations, product
 
 sys.dont_write_bytecode = True
 
+import below
 import sheets
 from slots import ORDER_V, ORDER_W, ORIGINAL, RELAXED, admission, check, output, run
 
@@ -31,9 +34,12 @@ def choices(text, order, model, slots, spare=False):
     return " ".join("-" if choice is None else str(choice) for choice, _, _ in answers)
 
 
-def prints(name, sheet, *lines):
+def prints(name, sheet, *lines, output=output):
     expected = "".join(line + "\n" for line in lines)
     equal(name, output(sheet.encode("latin-1")).decode("ascii"), expected)
+
+
+falls = partial(prints, output=below.output)
 
 
 # --- Runs worked by hand, A to I ------------------------------------------------
@@ -249,6 +255,88 @@ prints(
     "given 6 idle 0 tagged 1 short 1",
 )
 
+# --- Who falls below, worked by hand --------------------------------------------
+
+# A: job 0 has slot 0 of 0-3, 4 of 4-7 and, like slot 0, the first of 8-11; job 1 has 1 and 3 of
+# 0-5, and in 6-11 slot 6, since job 0 has its m, and 9.  B: slots 0 and 1 change places.  With
+# spare on what they have is the same, and more.
+NONE = "job 0 never below", "job 1 never below", "no job falls below"
+falls("A below", "W R 6\n1 2 1 2\n1 3 2 2\n", "cycle 12 load 7 admitted", *NONE)
+falls("A below, spare", "W R 6 S\n1 2 1 2\n1 3 2 2\n", "cycle 12 load 7 admitted", *NONE)
+falls("B below", "V R 6\n1 2 1 2\n1 3 2 2\n", "cycle 12 load 7 admitted", *NONE)
+# The runs of C to G are whole cycles.  C: job 0 has two slots of 0-3 and two of 4-7, job 1 has
+# two.  D: job 1 finishes in slots 2 and 6.  E: job 0 has its two slots, job 1 has 0, 2 and 4.
+falls("C below", "W R 8\n2 4 1 1\n1 2 2 4\n", "cycle 8 load 6 admitted", *NONE)
+falls("D below", "W O 8\n2 4 1 1\n1 2 2 4\n", "cycle 0 load 0 not judged", *NONE)
+falls("E below", "W R 6\n2 3 1 2\n1 2 1 1\n", "cycle 6 load 5 admitted", *NONE)
+# "slot 1 tags job 1, whose window is short"; "job 1 short".  The slot count is not used.
+ONE = "job 0 never below", "job 1 below in 1 of 1 windows a cycle, first in slot 1", "1 of 2 jobs fall below"
+for slots in 1, 2, 4096:
+    falls("F below", f"W R {slots}\n1 1 1 1\n1 2 1 1\n", "cycle 2 load 3 over", *ONE)
+    falls("G below", f"W R {slots}\n1 2 1 1\n2 2 1 1\n", "cycle 2 load 3 over", *ONE)
+
+# Admitted, and in order V job 1 falls below.  Deadlines: job 1's is 8 up to slot 7; job 0's is
+# 16/5 in slots 0 and 1, 2 + 14/4 in 2 and 3, 4 + 12/3 = 8 in 4 and 5, where the lower number is
+# first, then 6 + 10/2.  So job 1 has 6 and 7 and lacks a third.  From 8 on its deadline is 16;
+# job 0's is 8 + 8/2 in 8 and 9 and 10 + 6/1 = 16 in 10 and 11, and then it has its m: job 1 has
+# 12, 13 and 14.
+TIGHT = "2 2 5 8\n3 4 1 2\n"
+falls(
+    "V falls",
+    "V R 16\n" + TIGHT,
+    "cycle 16 load 16 admitted",
+    *["job 0 never below", "job 1 below in 1 of 2 windows a cycle, first in slot 7"],
+    "1 of 2 jobs fall below",
+)
+falls("V falls, in W", "W R 16\n" + TIGHT, "cycle 16 load 16 admitted", *NONE)
+
+# Original: job 0 has slots 0 and 2, in V too: deadlines 2 and 4, then 4 and 4.  Job 1 has 1 and
+# 3, each a begun instance that its period's end throws away.  Relaxed it has its two slots.
+for order in "VW":
+    falls(
+        "original falls",
+        f"{order} O 4\n1 1 1 2\n2 2 1 2\n",
+        "cycle 0 load 0 not judged",
+        *["job 0 never below", "job 1 below in 1 of 1 windows a cycle, first in slot 3"],
+        "1 of 2 jobs fall below",
+    )
+    falls("relaxed does not", f"{order} R 4\n1 1 1 2\n2 2 1 2\n", "cycle 4 load 4 admitted", *NONE)
+
+# Order V at unit service, admitted.  The long job's deadline is 3 + 37/24 in slot 3,
+# before 5, and past it in slot 4, which goes to the window of 5 slots; it is 8 + 32/20 in slot 8,
+# before 10.  So slot 9 alone is left for the two windows that end with it, and the lower number has
+# it.  So again slot 19, after 18 + 22/12.  Then the long job is ahead: its deadlines are past 25 in
+# slot 23, past 30 in 28 and past 35 in 32, and slots 34 to 39 are left for the last three units.
+# T = 1, so the two models are one.  In W none falls below.
+for three in permutations(("1 1 27 40", "1 1 1 10", "1 1 1 5")):
+    some = jobs(", ".join(three))
+    late = max(three.index("1 1 1 10"), three.index("1 1 1 5"))
+    many = [40 // k for C, T, m, k in some]
+    for model, spare in product((R, O), (False, True)):
+        expected = [(many[i], 2, 9) if i == late else (many[i], 0, None) for i in range(3)]
+        equal(f"V, slot 9: {three}", below.shortfalls(some, V, model, spare), (0, expected))
+        expected = [(windows, 0, None) for windows in many]
+        equal(f"W, never: {three}", below.shortfalls(some, W, model, spare), (0, expected))
+
+# Job 0 has each slot, so each window of the others is short, the first as it ends.
+falls(
+    "two of three",
+    "W R 1\n1 1 1 1\n1 1 1 2\n1 1 1 3\n",
+    "cycle 6 load 11 over",
+    *["job 0 never below", "job 1 below in 3 of 3 windows a cycle, first in slot 1"],
+    *["job 2 below in 2 of 2 windows a cycle, first in slot 2", "2 of 3 jobs fall below"],
+)
+
+# Above the limit, 16,777,217, nothing is run, in either model; the rows before it come first.
+LONG = "1 257 1 97\n1 673 1 1\n"
+falls("8, relaxed", "V R 5\n" + LONG, "cycle 0 load 0 cycle too long", "not judged")
+falls("8, original", "W O 5 S\n" + LONG, "cycle 0 load 0 not judged", "not judged")
+for model in R, O:
+    equal("row 8", below.shortfalls(jobs("1 257 1 97, 1 673 1 1"), V, model, False), (8, []))
+    equal("15 before 1", below.shortfalls([], 2, model, False), (15, []))
+    equal("6 before 8", below.shortfalls(jobs("1 257 1 97, 1 673 2 1"), V, model, False), (6, []))
+equal("15, model", below.shortfalls([], V, 2, False), (15, []))
+
 # --- Refused sheets, the row and the place worked out by hand -------------------
 
 JOBS = "1 2 1 2\n"  # 8 bytes; behind "V R 6\n" it stands at 6 to 13
@@ -345,7 +433,8 @@ for sheet, refusal in (
     ("V R " + "1" * 4092, "13 at 9"),
     ("V R 0\n" * 1000, "17"),
 ):
-    prints(f"sheet {sheet[:40]!r} ({len(sheet)})", sheet, "refused " + refusal)
+    for output_of in output, below.output:
+        prints(f"sheet {sheet[:40]!r} ({len(sheet)})", sheet, "refused " + refusal, output=output_of)
 
 # As many jobs and as many slots as are allowed.
 prints(
@@ -362,12 +451,21 @@ equal("4,096 slots", output(b"V O 4096\n1 4096 255 255\n").count(b"\n"), 4098)
 found = sheets.job_bytes(jobs("1 2 3 4, 4096 258 254 255"))
 equal("job bytes", list(found), [1, 0, 2, 0, 3, 4, 0, 16, 2, 1, 254, 255])
 equal("same seed", sheets.sheet(sheets.draw(3, 4)), sheets.sheet(sheets.draw(3, 4)))
-kinds = set()
-for number in range(600):
-    line = output(sheets.sheet(sheets.draw("kinds", number))).split(b"\n")[0].split()
-    kinds.add(b" ".join(line[1:2] if line[0] == b"refused" else line[4:]).decode())
+
+
+def kinds(draw_sheet, output, count):
+    drawn = (draw_sheet(sheets.draw("kinds", number)) for number in range(count))
+    return {sheets.kind(sheet, output(sheet)) for sheet in drawn}
+
+
+refused = {f"refused {row}" for row in (1, 2, 3, 4, 5, 6, 13, 16, 17)}
 expected = {"admitted", "over", "cycle too long", "not judged"}
-equal("kinds", kinds, expected | {str(row) for row in (1, 2, 3, 4, 5, 6, 13, 16, 17)})
+equal("kinds", kinds(sheets.sheet, output, 600), expected | refused)
+# In V an admitted list may have jobs that fall below, in W none has; over, some job does.
+expected = {"admitted: none", "over: some", "over: all", "cycle too long: not run"}
+expected |= {"not judged: " + who for who in ("none", "some", "all", "not run")}
+expected = {f"{order} {told}" for order in "VW" for told in expected} | {"V admitted: some"}
+equal("kinds of below", kinds(sheets.below_sheet, below.output, 400), expected | refused)
 
 # A job takes spare slots only where it is not eligible, and is not until its window ends:
 # a run with spare on is the run with spare off, save for what was idle there.
@@ -408,6 +506,36 @@ for number in range(400):
         for spare in False, True:  # "Demand 3 holds with it on or off."
             answers = run(some, ORDER_W, RELAXED, min(cycle + 1, 150), spare)
             equal(f"no short window {some}", [shorts for _, _, shorts in answers if shorts], [])
+
+# The run repeats: in five cycles and more nothing new happens, and `below` has told it.
+fell = 0
+for number in range(240):
+    rng = sheets.draw("cycles", number)
+    some = sheets.below_jobs(rng, most=48)
+    row, _, cycle, _ = admission(some, R)
+    if row not in (0, 9):
+        continue
+    for order, model in product((V, W), (R, O)):
+        spare = rng.choice((False, True))
+        name = f"order {order}, model {model}, spare {spare}: {some}"
+        answers = run(some, order, model, 5 * cycle + rng.randrange(cycle), spare)
+        shorts = [shorts for _, _, shorts in answers]
+        equal(f"a cycle later, {name}", shorts[cycle:], shorts[:-cycle])
+        found = below.shortfalls(some, order, model, spare)[1]
+        for job, it in enumerate(found):
+            slots = [slot for slot, who in enumerate(shorts) if job in who]
+            equal(f"first, {name}", it.first, min(slots, default=None))
+            many = [sum(slot < cycles * cycle for slot in slots) for cycles in range(1, 6)]
+            equal(f"short windows, {name}", many, [it.short * cycles for cycles in range(1, 6)])
+            equal(f"windows, {name}", it.windows * some[job].k * some[job].T, cycle)
+        # Spare slots go to jobs that have their m, and take nothing from another.
+        equal(f"the other spare, {name}", below.shortfalls(some, order, model, not spare)[1], found)
+        falling = any(it.short for it in found)
+        fell += falling
+        # "Admitted means load <= H"; "the promise of no short window is for W".
+        if model == R and (row == 9 or order == W):
+            equal(f"admitted or over, {name}", falling, row == 9)
+equal("runs with jobs below", fell > 300, True)
 
 print(f"test_second: {done - failed} of {done} passed")
 sys.exit(1 if failed else 0)

@@ -41,11 +41,12 @@ others-return-none SheetTooLong k = refl
 abbrev pub others : List ℕ
 others = 0 ∷ 1 ∷ 2 ∷ 3 ∷ 4 ∷ 5 ∷ 6 ∷ 7 ∷ 9 ∷ 10 ∷ 11 ∷ 12 ∷ 13 ∷ 14 ∷ 15 ∷ 16 ∷ []
 
+pub not-overload : {r : Refusal} → OneOf others (tagOf the-type r) → (h d : ℕ) → r ≡ Overload h d → ⊥
+not-overload k h d same = miss others 8 tt (subst (λ (x : Refusal). OneOf others (tagOf the-type x)) same k)
+
 pub refused-otherwise :
     {a : Admission} {r : Refusal} → a ≡ Refused r → OneOf others (tagOf the-type r) → returnsBoth (toldAdmission a) ≡ false
-refused-otherwise {r = r} e k =
-    ap (λ (x : Admission). returnsBoth (toldAdmission x)) e
-    ∙ others-return-none r (λ h d same. miss others 8 tt (subst (λ (x : Refusal). OneOf others (tagOf the-type x)) same k))
+refused-otherwise {r = r} e k = ap (λ (x : Admission). returnsBoth (toldAdmission x)) e ∙ others-return-none r (not-overload k)
 
 -- one of the two values, 0 where they are not returned
 value-returned :

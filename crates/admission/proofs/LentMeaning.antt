@@ -31,7 +31,7 @@ array-holds xs i less = filled-at noJob (jobAt xs) _ i less (min-le-right (lengt
 
 -- the verdict reads the jobs below the count, and these only where they are at most 16
 module _ (a b : List Job) where
-  same-cycle : (n : ℕ) → Same a b n → cycleUpto a n ≡ cycleUpto b n
+  pub same-cycle : (n : ℕ) → Same a b n → cycleUpto a n ≡ cycleUpto b n
   unfolding cycleUpto
   same-cycle zero same = refl
   same-cycle (suc n) same = rw (same-cycle n (λ i h. same i (omega arith)), same n (omega arith)) refl

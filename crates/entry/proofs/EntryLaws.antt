@@ -1,4 +1,4 @@
--- The answers of the two entries and the bytes of a fill, by their tests.
+-- The answers of admission and of a fill, and the bytes of a fill, by their tests.
 use mathlib.Core.Path.{_≡_, refl, sym, _∙_}
 use mathlib.Core.Bool.{Bool, true, false}
 use mathlib.Core.List.{List, []}
@@ -19,11 +19,11 @@ use Rattle.job.proofs.CheckLaws.{otherwise-refused}
 
 -- the test of row 14
 module _ (jobs : List ℕ) (t : Told) where
-  whole-told : Whole jobs → wholeJobs jobs t ≡ t
+  pub whole-told : Whole jobs → wholeJobs jobs t ≡ t
   unfolding wholeJobs
   whole-told whole = rw (eq-eqb (length jobs % 6) 0 whole)
 
-  broken-told : (Whole jobs → ⊥) → wholeJobs jobs t ≡ row 14 []
+  pub broken-told : (Whole jobs → ⊥) → wholeJobs jobs t ≡ row 14 []
   unfolding wholeJobs
   broken-told broken = rw (ne-eqb (length jobs % 6) 0 broken)
 

@@ -1,4 +1,4 @@
--- The statements of specs/Meaning about the numbers of the two entries and of `fill`: what each row says, and that it is given wherever that holds.
+-- The statements of specs/Meaning about the numbers of those entries and of `fill`: what each row says, and that it is given wherever that holds.
 use mathlib.Core.Path.{_≡_, refl, sym, ap, subst, _∙_}
 use mathlib.Core.Bool.{Bool, true, false, _&&_, cond}
 use mathlib.Core.Logic.{_↔_, _⊎_, inl, inr, ⊎-elim}
@@ -43,11 +43,11 @@ use Rattle.entry.proofs.JobLaws.{read-holds, held-whole, held-same, rea
 use Rattle.entry.proofs.EntryLaws.{WritesOn, admit-broken, admit-whole, fill-broken, fill-starts, fill-keeps, writes-on as write-on}
 
 -- two equal answers have one number
-numbered : {a b : Told} → a ≡ b → a .number ≡ b .number
+pub numbered : {a b : Told} → a ≡ b → a .number ≡ b .number
 numbered e = ap (λ (t : Told). t .number) e
 
 -- a list is sound or is refused by one of rows 1 to 6
-Faulty : JobList → Type 0
+unfoldable pub Faulty : JobList → Type 0
 Faulty l = (1 ≤ listTold l .number) × (listTold l .number ≤ 6)
 
 fault-row : {j : Job} {n : ℕ} → FaultOf j n → (1 ≤ n) × (n ≤ 6)
@@ -56,7 +56,7 @@ fault-row (c-fault t c) = (omega arith, omega arith)
 fault-row (k-fault t c k) = (omega arith, omega arith)
 fault-row (m-fault t c k m) = (omega arith, omega arith)
 
-list-row : (l : JobList) → SoundList l ⊎ Faulty l
+pub list-row : (l : JobList) → SoundList l ⊎ Faulty l
 unfolding Faulty
 list-row l = go (list-view l)
   where

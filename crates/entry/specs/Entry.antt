@@ -1,4 +1,4 @@
--- The two entries: 'Tests 14, 15, then the rows above; for the fill 12, then 11, come after 6.'
+-- Admission and a fill by job bytes: 'Tests 14, 15, then the rows above; for the fill 12, then 11, come after 6.'
 use Prim.Native.Nat.{ℕ, _%_}
 use mathlib.Core.Bool.{cond}
 use mathlib.Core.List.{List, []}

@@ -1,4 +1,4 @@
--- What the two entries and `fill` return and leave, whatever their promises allow. Each statement is proved in proofs/, under its name.
+-- What the entries for admission and for a fill, and `fill`, return and leave, whatever their promises allow. Each statement is proved in proofs/, under its name.
 use Prim.Native.Nat.{ℕ, _+_, _*_, _%_, _≤_, _<_}
 use mathlib.Core.Path.{_≡_}
 use mathlib.Core.Logic.{_↔_}

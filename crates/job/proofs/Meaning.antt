@@ -1,7 +1,7 @@
 -- The check of a job and of a list by what it means; from these laws, the statements of specs/Meaning.
 use mathlib.Core.Path.{_≡_, refl, sym, _∙_, ap, subst}
 use mathlib.Core.Bool.{Bool, true, false}
-use mathlib.Core.Logic.{_↔_}
+use mathlib.Core.Logic.{_↔_, _⊎_, inl, inr}
 use mathlib.Core.List.{List, [], _∷_}
 use Prim.Native.Nat.{ℕ, zero, suc, _+_, _≤_, _<_}
 use native.Mathlib.Numerals.{add-one}
@@ -227,6 +227,29 @@ job-rows-exactly l n i = (go (list-view l), list-fault l n i)
         let i-same : i′ ≡ i = ap (λ (t : Told). getD (t .values) 0 0) same in
         subst (λ (x : ℕ). LowestFault l n x) i-same
         (subst (λ (x : ℕ). LowestFault l x i′) (ap (λ (t : Told). t .number) same) f)
+
+-- a list passes, or it has the number of its row
+pub sound-or : (l : JobList) → SoundList l ⊎ (eqb (listTold l .number) 0 ≡ false)
+sound-or l = go (list-view l)
+  where
+    refuses : {t : Told} → listTold l ≡ t → eqb (t .number) 0 ≡ false → SoundList l ⊎ (eqb (listTold l .number) 0 ≡ false)
+    refuses e number = inr (ap (λ (t : Told). eqb (t .number) 0) e ∙ number)
+
+    go : ListView l → SoundList l ⊎ (eqb (listTold l .number) 0 ≡ false)
+    go (no-jobs h) = refuses (list-none l h) refl
+    go (many-jobs h) = refuses (list-many l h) refl
+    go (sound-list s) = inl s
+    go (faulty-list n i f) = refuses (list-fault l n i f) (fault-refuses (jobAt (l .jobs) i) n (f .fault))
+
+-- no row without a value is given but 1 and 2
+pub no-other-row : (l : JobList) {n : ℕ} → eqb 0 n ≡ false → eqb 1 n ≡ false → eqb 2 n ≡ false → listTold l ≡ row n [] → ⊥
+no-other-row l zero-not one-not two-not e = go (list-view l)
+  where
+    go : ListView l → ⊥
+    go (no-jobs h) = apart (sym (list-none l h) ∙ e) one-not
+    go (many-jobs h) = apart (sym (list-many l h) ∙ e) two-not
+    go (sound-list h) = apart (sym (list-sound l h) ∙ e) zero-not
+    go (faulty-list n i h) = valued (sym (list-fault l n i h) ∙ e)
 
 pub list-checks : ListChecks
 list-checks l r e =

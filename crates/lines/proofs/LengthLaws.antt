@@ -1,12 +1,14 @@
 -- How long the parts of a line are at most, and that every line fits the buffer of 192 bytes.
 use mathlib.Core.Path.{_≡_, refl, sym, ap, _∙_}
 use mathlib.Core.Bool.{Bool, true, false, cond, _&&_}
-use mathlib.Core.List.{List, []}
+use mathlib.Core.List.{List, [], _++_}
 use Prim.Native.Nat.{ℕ, _≤_}
+use native.Mathlib.Decide.{ℕ-discrete}
 use native.Mathlib.Omega.{arith}
 use lib.Dec.{leb, eqb}
 use lib.ListN.{length, getD, length-append}
 use lib.Seq.{length-take-le}
+use borrow.Author.Tests.{eq-eqb, ne-eqb}
 use Rattle.job.specs.Limit.{countMost}
 use Rattle.job.specs.Told.{Told}
 use Rattle.run.specs.declared.answer.Choice.{Choice}
@@ -14,6 +16,9 @@ use Rattle.run.specs.declared.answer.Choice.the-variants.{Given, Idle}
 use Rattle.run.specs.declared.answer.Slot.{Slot}
 use Rattle.run.specs.declared.state.Totals.{Totals}
 use Rattle.admission.specs.Answer.{cycleReturned, loadReturned}
+use Rattle.shortfall.specs.declared.answer.First.{First}
+use Rattle.shortfall.specs.declared.answer.First.the-variants.{Never, Slot as FirstIn}
+use Rattle.shortfall.specs.declared.answer.Below.{Below}
 use Rattle.text.specs.Ascii.{ascii}
 use Rattle.text.specs.Decimal.{decimalOf}
 use Rattle.text.proofs.PrintLaws.{decimal-most}
@@ -22,6 +27,7 @@ use Rattle.lines.specs.Promise.{LinePromise}
 use Rattle.lines.specs.Slot.{choiceText, setText, slotText}
 use Rattle.lines.specs.Summary.{verdictWord, admissionText, totalsText}
 use Rattle.lines.specs.Refused.{valueText, refusalText}
+use Rattle.lines.specs.Below.{fallText, belowText, fallenText}
 use Rattle.lines.proofs.SetLaws.{set-most}
 use Rattle.text.proofs.WrittenLaws.{Ends, from-start, written-length}
 
@@ -100,6 +106,41 @@ totals-fits t = let known = totals-most t in simp length-append (omega arith)
 pub refusal-fits : (t : Told) → length (refusalText t) ≤ 192
 unfolding refusalText
 refusal-fits t = simp length-append (omega (arith, decimal-most (t .number), value-most t))
+
+pub record BelowMost (b : Below) : Type 0 where
+  pub short : length (decimalOf (b .short)) ≤ 20
+  pub windows : length (decimalOf (b .windows)) ≤ 20
+
+pub below-most : (b : Below) → BelowMost b
+below-most b = record { short = decimal-most (b .short); windows = decimal-most (b .windows) }
+
+pub fall-most : (short windows : ℕ) (first : First) → length (fallText short windows first) ≤ 107
+fall-most short windows Never = omega arith
+fall-most short windows (FirstIn n) =
+    simp length-append (omega (arith, decimal-most short, decimal-most windows, decimal-most n))
+
+pub below-fits : (job : ℕ) (b : Below) → length (belowText job b) ≤ 192
+unfolding belowText
+below-fits job b =
+    simp length-append (omega (arith, decimal-most job, fall-most (b .short) (b .windows) (b .first)))
+
+-- the last line, with no job fallen and with some
+pub none-fallen : (fallen jobs : ℕ) → fallen ≡ 0 → fallenText fallen jobs ≡ ascii "no job falls below\n"
+unfolding fallenText
+none-fallen fallen jobs none = rw (eq-eqb fallen 0 none)
+
+pub some-fallen :
+    (fallen jobs : ℕ) → (fallen ≡ 0 → ⊥)
+    → fallenText fallen jobs ≡ decimalOf fallen ++ (labelled (ascii " of ") jobs ++ ascii " jobs fall below\n")
+unfolding fallenText
+some-fallen fallen jobs some = rw (ne-eqb fallen 0 some)
+
+pub fallen-fits : (fallen jobs : ℕ) → length (fallenText fallen jobs) ≤ 192
+fallen-fits fallen jobs =
+    elim (ℕ-discrete fallen 0) [
+      | yes none ↦ rw (none-fallen fallen jobs none) (omega arith)
+      | no some ↦ rw (some-fallen fallen jobs some) (simp length-append (omega (arith, decimal-most fallen, decimal-most jobs)))
+    ]
 
 -- a whole line, from the buffer's start on
 pub whole-line :

@@ -15,9 +15,10 @@ use Rattle.lines.specs.Slot.{setText, slotText}
 use Rattle.lines.specs.Summary.{admissionText, totalsText}
 use Rattle.lines.specs.Refused.{refusalText}
 use Rattle.lines.specs.Answer.{answerText}
+use Rattle.lines.specs.Below.{belowText, fallenText}
 use Rattle.lines.specs.Promise.{LinePromise}
-use Rattle.lines.specs.Meaning.{SlotOneOfF, FirstLineOfA, LastLineOfA, FirstLineOfI, FirstLineTooLong, FirstLineNotJudged, LineOfRowThree, LineOfRowThirteen, EveryLineFits, Line, LinesWritten}
-use Rattle.lines.proofs.LengthLaws.{slot-fits, admission-fits, totals-fits, refusal-fits}
+use Rattle.lines.specs.Meaning.{SlotOneOfF, FirstLineOfA, LastLineOfA, FirstLineOfI, FirstLineTooLong, FirstLineNotJudged, LineOfRowThree, LineOfRowThirteen, LineOfNever, LineOfBelow, LineOfNoneFallen, LineOfOneFallen, EveryLineFits, Line, LinesWritten}
+use Rattle.lines.proofs.LengthLaws.{slot-fits, admission-fits, totals-fits, refusal-fits, below-fits, fallen-fits}
 
 pub slot-one-of-f : SlotOneOfF
 unfolding slotText setText decimalOf digitsOf countIn
@@ -51,8 +52,24 @@ pub line-of-row-thirteen : LineOfRowThirteen
 unfolding refusalText decimalOf digitsOf countIn
 line-of-row-thirteen = refl
 
+pub line-of-never : LineOfNever
+unfolding belowText decimalOf digitsOf countIn
+line-of-never = refl
+
+pub line-of-below : LineOfBelow
+unfolding belowText decimalOf digitsOf countIn
+line-of-below = refl
+
+pub line-of-none-fallen : LineOfNoneFallen
+unfolding fallenText
+line-of-none-fallen = refl
+
+pub line-of-one-fallen : LineOfOneFallen
+unfolding fallenText decimalOf digitsOf countIn
+line-of-one-fallen = refl
+
 pub every-line-fits : EveryLineFits
-every-line-fits = (slot-fits, admission-fits, totals-fits, refusal-fits)
+every-line-fits = (slot-fits, admission-fits, totals-fits, refusal-fits, below-fits, fallen-fits)
 
 -- a text that fits, written from the buffer's start on
 line-of :
@@ -84,4 +101,6 @@ lines-written =
       answer = λ number answer before r after long. line-of _ before r after (omega (arith, answer-fits number answer));
       admission = λ answer before r after long. line-of _ before r after (omega (arith, admission-fits (toldAdmission answer)));
       totals = λ totals before r after long. line-of _ before r after (omega (arith, totals-fits totals));
+      job = λ job below before r after long. line-of _ before r after (omega (arith, below-fits job below));
+      fallen = λ fallen jobs before r after long. line-of _ before r after (omega (arith, fallen-fits fallen jobs));
     }

@@ -1,5 +1,5 @@
--- What a reader may check of the lines against document 01: the lines that it quotes, and that every line fits the buffer. Each
--- statement is proved in proofs/, under its name.
+-- What a reader may check of the lines: those that document 01 quotes, one of each kind that `below` prints, and that every line fits
+-- the buffer. Each statement is proved in proofs/, under its name.
 use mathlib.Core.Path.{_≡_}
 use mathlib.Core.List.{List, [], _∷_}
 use Prim.Native.Nat.{ℕ, _≤_}
@@ -13,12 +13,15 @@ use Rattle.run.specs.declared.answer.Choice.the-variants.{Given}
 use Rattle.run.specs.declared.answer.StepAnswer.{StepAnswer}
 use Rattle.run.specs.declared.answer.Slot.{Slot}
 use Rattle.run.specs.declared.state.Totals.{Totals}
+use Rattle.shortfall.specs.declared.answer.First.the-variants.{Never, Slot as FirstIn}
+use Rattle.shortfall.specs.declared.answer.Below.{Below}
 use Rattle.text.specs.Ascii.{ascii}
 use Rattle.lines.specs.Slot.{slotText}
 use Rattle.lines.specs.Summary.{admissionText, totalsText}
 use Rattle.lines.specs.Refused.{refusalText}
 use Rattle.lines.specs.Answer.{answerText}
-use Rattle.lines.specs.Promise.{SlotLinePromise, RefusalLinePromise, AnswerLinePromise, AdmissionLinePromise, TotalsLinePromise}
+use Rattle.lines.specs.Below.{belowText, fallenText}
+use Rattle.lines.specs.Promise.{SlotLinePromise, RefusalLinePromise, AnswerLinePromise, AdmissionLinePromise, TotalsLinePromise, JobLinePromise, FallenLinePromise}
 
 -- 'slot 1 of case F: "1 0 t1 s1"'
 abbrev pub SlotOneOfF : Type 0
@@ -48,6 +51,22 @@ LineOfRowThree = refusalText (told (Period 2)) ≡ ascii "refused 3 job 2\n"
 abbrev pub LineOfRowThirteen : Type 0
 LineOfRowThirteen = refusalText (told (SheetForm 7)) ≡ ascii "refused 13 at 7\n"
 
+-- 'job J never below', and 'job J below in A of B windows a cycle, first in slot S', slot 0 too
+abbrev pub LineOfNever : Type 0
+LineOfNever = belowText 2 (record { windows = 3; short = 0; first = Never }) ≡ ascii "job 2 never below\n"
+
+abbrev pub LineOfBelow : Type 0
+LineOfBelow =
+    belowText 1 (record { windows = 3; short = 2; first = FirstIn 0 })
+    ≡ ascii "job 1 below in 2 of 3 windows a cycle, first in slot 0\n"
+
+-- 'no job falls below', and 'N of M jobs fall below'
+abbrev pub LineOfNoneFallen : Type 0
+LineOfNoneFallen = fallenText 0 2 ≡ ascii "no job falls below\n"
+
+abbrev pub LineOfOneFallen : Type 0
+LineOfOneFallen = fallenText 1 2 ≡ ascii "1 of 2 jobs fall below\n"
+
 -- a buffer of 192 bytes holds any line
 abbrev pub EveryLineFits : Type 0
 EveryLineFits =
@@ -55,6 +74,8 @@ EveryLineFits =
     × ((t : Told) → length (admissionText t) ≤ 192)
     × ((t : Totals) → length (totalsText t) ≤ 192)
     × ((t : Told) → length (refusalText t) ≤ 192)
+    × ((job : ℕ) (b : Below) → length (belowText job b) ≤ 192)
+    × ((fallen jobs : ℕ) → length (fallenText fallen jobs) ≤ 192)
 
 -- a line in its buffer: the text at the start, and the other bytes as they were
 pub record Line (text before : List ℕ) (r : ℕ) (after : List ℕ) : Type 0 where
@@ -62,7 +83,7 @@ pub record Line (text before : List ℕ) (r : ℕ) (after : List ℕ) : Type 0 w
   pub text-is : take r after ≡ text
   pub stays : drop r after ≡ drop r before
 
--- whatever the promises of the five functions allow is the line of their text
+-- whatever the promises of the seven functions allow is the line of their text
 pub record LinesWritten : Type 0 where
   pub slot :
       (number : ℕ) (slot : Slot) (before : List ℕ) (r : ℕ) (after : List ℕ) → length before ≡ 192
@@ -79,3 +100,9 @@ pub record LinesWritten : Type 0 where
   pub totals :
       (totals : Totals) (before : List ℕ) (r : ℕ) (after : List ℕ) → length before ≡ 192
       → TotalsLinePromise totals before r after → Line (totalsText totals) before r after
+  pub job :
+      (job : ℕ) (below : Below) (before : List ℕ) (r : ℕ) (after : List ℕ) → length before ≡ 192
+      → JobLinePromise job below before r after → Line (belowText job below) before r after
+  pub fallen :
+      (fallen jobs : ℕ) (before : List ℕ) (r : ℕ) (after : List ℕ) → length before ≡ 192
+      → FallenLinePromise fallen jobs before r after → Line (fallenText fallen jobs) before r after

@@ -10,12 +10,14 @@ use Rattle.admission.specs.Answer.{toldAdmission}
 use Rattle.run.specs.declared.state.Totals.{Totals}
 use Rattle.run.specs.declared.answer.Slot.{Slot}
 use Rattle.run.specs.declared.answer.StepAnswer.{StepAnswer}
+use Rattle.shortfall.specs.declared.answer.Below.{Below}
 use Rattle.text.specs.Written.{written}
 use Rattle.lines.specs.Parts.{Fills}
 use Rattle.lines.specs.Slot.{slotText}
 use Rattle.lines.specs.Summary.{admissionText, totalsText}
 use Rattle.lines.specs.Refused.{refusalText}
 use Rattle.lines.specs.Answer.{answerText}
+use Rattle.lines.specs.Below.{belowText, fallenText}
 
 -- a line: the text's length, the text at the start of the lent buffer, whose other bytes stay, and that it fits
 abbrev pub LinePromise : List ℕ → List ℕ → ℕ → List ℕ → Type 0
@@ -37,3 +39,10 @@ AdmissionLinePromise answer = LinePromise (admissionText (toldAdmission answer))
 
 abbrev pub TotalsLinePromise : Totals → List ℕ → ℕ → List ℕ → Type 0
 TotalsLinePromise totals = LinePromise (totalsText totals)
+
+-- `job_line`, `fallen_line`
+abbrev pub JobLinePromise : ℕ → Below → List ℕ → ℕ → List ℕ → Type 0
+JobLinePromise job below = LinePromise (belowText job below)
+
+abbrev pub FallenLinePromise : ℕ → ℕ → List ℕ → ℕ → List ℕ → Type 0
+FallenLinePromise fallen jobs = LinePromise (fallenText fallen jobs)

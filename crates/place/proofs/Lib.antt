@@ -7,6 +7,7 @@ pub mod CounterLaws
 pub mod WindowLaws
 pub mod PlaceLaws
 pub mod TagLaws
+pub mod BareLaws
 pub mod RangeLaws
 pub mod DistanceLaws
 pub mod OrderLaws

@@ -222,7 +222,7 @@ module _ {setting : Setting} {q : Place} (sound : SoundPlace setting q) where
             };
       }
 
-  given-sound : (chosen : Bool) → (chosen ≡ true → candidateOf setting q ≡ true) → SoundPlace setting (givenOf setting q chosen)
+  pub given-sound : (chosen : Bool) → (chosen ≡ true → candidateOf setting q ≡ true) → SoundPlace setting (givenOf setting q chosen)
   unfolding givenOf
   given-sound true fair = served-sound (fair refl)
   given-sound false fair = sound

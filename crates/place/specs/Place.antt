@@ -7,6 +7,7 @@ use lib.Signed.{leZ}
 use Rattle.place.specs.declared.setting.Setting.{Setting}
 use Rattle.place.specs.declared.record.Place.{Place}
 use Rattle.place.specs.declared.inner.service.Outcome.{Outcome}
+use Rattle.place.specs.declared.inner.service.Passage.{Passage}
 use Rattle.place.specs.Setting.{byUnits}
 use Rattle.place.specs.Opening.{opened}
 
@@ -110,3 +111,9 @@ unfoldable pub movedOf : Setting → Place → Bool → Outcome
 movedOf setting q chosen =
     let worked = workedOf setting q chosen in
     record { place = turnedOf worked; tagged = firstTagged setting q chosen; short = shortOf setting worked }
+
+-- the same where nobody asks for the tag: it is left as it is
+unfoldable pub passedOf : Setting → Place → Bool → Passage
+passedOf setting q chosen =
+    let given = givenOf setting q chosen in
+    record { place = turnedOf given; short = shortOf setting given }

@@ -12,6 +12,7 @@ use Rattle.lines.specs.Slot.{slotText}
 use Rattle.lines.specs.Summary.{admissionText, totalsText}
 use Rattle.lines.specs.Refused.{refusalText}
 use Rattle.lines.specs.Answer.{answerText}
+use Rattle.lines.specs.Below.{belowText, fallenText}
 use Rattle.lines.specs.Promise.{LinePromise}
 use Rattle.promises.specs.Unique.{Unique, BothUnique, JobUnique, AdmissionUnique, RunUnique, BytesUnique}
 
@@ -69,6 +70,13 @@ run-unique =
             answer = step-one-to-one (a .answer) (b .answer) (e .0 ∙ sym (f .0)) i;
             state = (e .1 ∙ sym (f .1)) i;
           };
+      shortfall =
+          λ l s a b e f i.
+          record {
+            answer = checked-one-to-one (a .answer) (b .answer) (e .0 ∙ sym (f .0)) i;
+            fallen = (e .1 ∙ sym (f .1)) i;
+            jobs = (e .2 ∙ sym (f .2)) i;
+          };
     }
 
 line-unique : (text before : List ℕ) → BothUnique (LinePromise text before)
@@ -88,6 +96,8 @@ bytes-unique =
       admit-entry = λ jobs model. fixed _;
       fill = λ jobs setting before offset n a b x y e f. (e .0 ∙ sym (f .0), e .1 ∙ sym (f .1));
       fill-entry = λ jobs order model before offset n a b x y e f. (e .0 ∙ sym (f .0), e .1 ∙ sym (f .1));
+      below = λ jobs setting before a b x y e f. (e .0 ∙ sym (f .0), e .1 ∙ sym (f .1));
+      below-entry = λ jobs order model spare before a b x y e f. (e .0 ∙ sym (f .0), e .1 ∙ sym (f .1));
       blank-sheet = fixed _;
       read =
           λ bytes a b e f i.
@@ -100,4 +110,6 @@ bytes-unique =
       answer-line = λ number a before. line-unique (answerText number a) before;
       admission-line = λ a before. line-unique (admissionText (toldAdmission a)) before;
       totals-line = λ t before. line-unique (totalsText t) before;
+      job-line = λ job below before. line-unique (belowText job below) before;
+      fallen-line = λ fallen jobs before. line-unique (fallenText fallen jobs) before;
     }

@@ -18,9 +18,11 @@ use Rattle.run.specs.declared.answer.Slot.{Slot}
 use Rattle.run.specs.declared.answer.StepAnswer.{StepAnswer}
 use Rattle.run.specs.Promise.{ZerosPromise, FreshPromise, InRangePromise, StartPromise, StepPromise}
 use Rattle.timetable.specs.Promise.{WritePromise}
-use Rattle.entry.specs.Promise.{AdmitEntryPromise, FillPromise, FillEntryPromise}
+use Rattle.shortfall.specs.declared.answer.Below.{Below}
+use Rattle.shortfall.specs.Promise.{ShortfallPromise}
+use Rattle.entry.specs.Promise.{AdmitEntryPromise, FillPromise, FillEntryPromise, BelowPromise, BelowEntryPromise}
 use Rattle.sheet.specs.Promise.{BlankPromise as BlankSheetPromise, ReadPromise}
-use Rattle.lines.specs.Promise.{SlotLinePromise, RefusalLinePromise, AnswerLinePromise, AdmissionLinePromise, TotalsLinePromise}
+use Rattle.lines.specs.Promise.{SlotLinePromise, RefusalLinePromise, AnswerLinePromise, AdmissionLinePromise, TotalsLinePromise, JobLinePromise, FallenLinePromise}
 
 -- a promise about results of one input allows one result
 abbrev pub Unique : {A : Type 0} → (A → Type 0) → Type 0
@@ -49,7 +51,7 @@ pub record AdmissionUnique : Type 0 where
   pub admit : (jobs : List Job) (model : ℕ) → Unique (AdmitPromise jobs model)
   pub admit-first : (jobs : List Job) (n model : ℕ) → Unique (AdmitFirstPromise jobs n model)
 
--- `Setting`, `Place`, `State`, `start`, `step`
+-- `Setting`, `Place`, `State`, `start`, `step`, `shortfall`
 pub record RunUnique : Type 0 where
   pub made : (order model : ℕ) → Unique (MadePromise order model)
   pub allowed : (s : Setting) → Unique (AllowedPromise s)
@@ -60,8 +62,9 @@ pub record RunUnique : Type 0 where
   pub in-range : (s : State) → Unique (InRangePromise s)
   pub start : (l : JobList) (s : Setting) → Unique (StartPromise l s)
   pub step : (s : State) → Unique (StepPromise s)
+  pub shortfall : (l : JobList) (s : Setting) → Unique (ShortfallPromise l s)
 
--- `write`, the C entries and `fill`, `Sheet`, `sheet::read`, the five lines
+-- `write`, the C entries, `fill` and `below`, `Sheet`, `sheet::read`, the seven lines
 pub record BytesUnique : Type 0 where
   pub write : (s : State) (before : List ℕ) (offset n : ℕ) → BothUnique (WritePromise s before offset n)
   pub admit-entry : (jobs : List ℕ) (model : ℕ) → Unique (AdmitEntryPromise jobs model)
@@ -70,6 +73,9 @@ pub record BytesUnique : Type 0 where
   pub fill-entry :
       (jobs : List ℕ) (order model : ℕ) (before : List ℕ) (offset n : ℕ)
       → BothUnique (FillEntryPromise jobs order model before offset n)
+  pub below : (jobs : List ℕ) (setting : Setting) (before : List ℕ) → BothUnique (BelowPromise jobs setting before)
+  pub below-entry :
+      (jobs : List ℕ) (order model spare : ℕ) (before : List ℕ) → BothUnique (BelowEntryPromise jobs order model spare before)
   pub blank-sheet : Unique BlankSheetPromise
   pub read : (bytes : List ℕ) → Unique (ReadPromise bytes)
   pub slot-line : (number : ℕ) (slot : Slot) (before : List ℕ) → BothUnique (SlotLinePromise number slot before)
@@ -77,3 +83,5 @@ pub record BytesUnique : Type 0 where
   pub answer-line : (number : ℕ) (a : StepAnswer) (before : List ℕ) → BothUnique (AnswerLinePromise number a before)
   pub admission-line : (a : Admission) (before : List ℕ) → BothUnique (AdmissionLinePromise a before)
   pub totals-line : (t : Totals) (before : List ℕ) → BothUnique (TotalsLinePromise t before)
+  pub job-line : (job : ℕ) (below : Below) (before : List ℕ) → BothUnique (JobLinePromise job below before)
+  pub fallen-line : (fallen jobs : ℕ) (before : List ℕ) → BothUnique (FallenLinePromise fallen jobs before)

@@ -9,3 +9,5 @@ pub mod SetLaws
 pub mod RunLaws
 pub mod Meaning
 pub mod TagMeaning
+pub mod RepeatLaws
+pub mod RepeatMeaning

@@ -32,7 +32,7 @@ use Rattle.run.proofs.HereLaws.{past-blank}
 use Rattle.run.proofs.FreshLaws.{fresh-sound}
 use Rattle.run.proofs.AnswerLaws.{StepView, out-of-range, at-limit, goes-on, step-view, step-one-to-one}
 use Rattle.run.proofs.RunLaws.{after-setting, after-count, after-clock, choices-long, choices-take, choice-at}
-use Rattle.run.proofs.CallLaws.{Slots, answersOf, answer-at, answers-long, steps-clock, steps-exist, run-slots}
+use Rattle.run.proofs.CallLaws.{Slots, answersOf, slots-at, answers-long, steps-clock, steps-exist, run-slots}
 use Rattle.rules.specs.Rules.{idleByte, jobOf, Chooses, picked, idled, Follows}
 use Rattle.rules.specs.Meaning.{SlotTold, PlaceTold, StateTold, noSlot, RunTold, RunFollows, OnlyRun, FollowsDue, OffKeeps, RunStarts, RunGoesOn, RunExists}
 use Rattle.rules.proofs.HistoryLaws.{PlaceHistory}
@@ -122,9 +122,7 @@ module _ (l : JobList) (setting : Setting) (jobs : SoundList l) (allowed : Allow
           long = sym (ap length same) ∙ choices-long fresh n;
           slots-are =
               λ i h.
-              let slot : turnOf (afterSlots fresh i) .slot ≡ getD slots i noSlot =
-              sym (answer-at noSlot fresh n i h) ∙ ap (λ (x : List Slot). getD x i noSlot) (sym (run-is .slots-are)) in
-              subst (SlotTold l setting (bytesOf slots) i) slot
+              subst (SlotTold l setting (bytesOf slots) i) (sym (slots-at noSlot run-is i h))
               (subst (λ (b : List ℕ). SlotTold l setting b i (turnOf (afterSlots fresh i) .slot)) same
               (slot-told l setting jobs allowed n run-short i h));
           state-is =

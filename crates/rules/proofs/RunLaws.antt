@@ -15,7 +15,8 @@ use Rattle.place.specs.Sound.{Allowed, SoundPlace}
 use Rattle.place.proofs.TagLaws.{Untagged, untagged-opened, untagged-next}
 use Rattle.run.specs.declared.state.State.{State}
 use Rattle.run.specs.State.{clockMost, placeAt, freshOf}
-use Rattle.run.specs.Slot.{countUpto, allMoved, turnOf}
+use Rattle.run.specs.Choice.{chosenOf}
+use Rattle.run.specs.Slot.{shortsAt, countUpto, allMoved, turnOf}
 use Rattle.run.specs.Sound.{SoundState}
 use Rattle.run.specs.Run.{afterSlots, choicesOf}
 use Rattle.run.proofs.FreshLaws.{fresh-listed, fresh-sound}
@@ -171,6 +172,11 @@ module _ (l : JobList) (setting : Setting) (jobs : SoundList l) (allowed : Allow
 
       pub slot-told : SlotTold l setting bytes n (turnOf now .slot)
       slot-told = subst (λ (x : Setting). SlotTold l x bytes n (turnOf now .slot)) (after-setting fresh n) slot-at
+
+      -- a job's window ends short in the slot exactly if the rules say so
+      pub short-after : (i : ℕ) → i < l .count → shortsAt (now .setting) (now .places) (chosenOf now) i ≡ endsShort l setting bytes n i
+      short-after i listed =
+          short-here l jobs bytes n now (before n h) i listed ∙ ap (λ (x : Setting). endsShort l x bytes n i) (after-setting fresh n)
 
       -- a window that ends short has its tag
       pub short-has-tag :

@@ -2,3 +2,4 @@
 pub mod Rules
 pub mod Meaning
 pub mod TagMeaning
+pub mod RepeatMeaning

@@ -107,12 +107,17 @@ steps-clock {s} sound (a-step {slots = slots} r promise done rest) =
     omega (arith, turn-clock s)
 
 -- slot i of the slots answered
-pub answer-at : (d : Slot) (s : State) (n i : ℕ) → i < n → getD (answersOf s n) i d ≡ turnOf (afterSlots s i) .slot
+answer-at : (d : Slot) (s : State) (n i : ℕ) → i < n → getD (answersOf s n) i d ≡ turnOf (afterSlots s i) .slot
 unfolding answersOf afterSlots
 answer-at d s zero i h = absurd (omega arith)
 answer-at d s (suc n) zero h = refl
 answer-at d s (suc n) (suc i) h =
     answer-at d (turnOf s .state) n i (omega arith) ∙ ap (λ (x : State). turnOf x .slot) (after-first s i)
+
+-- slot i of calls in a row
+pub slots-at : (d : Slot) {s t : State} {slots : List Slot} → Slots s slots t → (i : ℕ) → i < length slots → getD slots i d ≡ turnOf (afterSlots s i) .slot
+slots-at d {s} {t} {slots} called i inside =
+    ap (λ (x : List Slot). getD x i d) (called .slots-are) ∙ answer-at d s (length slots) i inside
 
 pub answers-long : (s : State) (n : ℕ) → length (answersOf s n) ≡ n
 unfolding answersOf

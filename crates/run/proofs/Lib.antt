@@ -11,5 +11,6 @@ pub mod StartLaws
 pub mod AnswerLaws
 pub mod TurnLaws
 pub mod RunLaws
+pub mod AgainLaws
 pub mod CallLaws
 pub mod SlotMeaning

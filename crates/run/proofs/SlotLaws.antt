@@ -4,13 +4,14 @@ use mathlib.Core.Bool.{Bool, true, false, _&&_, cond}
 use mathlib.Core.Logic.{_↔_}
 use mathlib.Core.List.{List}
 use Prim.Native.Nat.{ℕ, zero, suc, _+_, _-_, _*_, _/_, _%_, _^_, _≤_, _<_}
-use native.Mathlib.Nat.{le-refl, pow-suc, div-eq-of-lt, add-div-right, add-mul-div-left, add-mul-mod-self-right, lt-of-lt-of-le}
+use native.Mathlib.Nat.{add-zero, le-refl, pow-suc, div-eq-of-lt, add-div-right, add-mul-div-left, add-mul-mod-self-right, lt-of-lt-of-le}
 use native.Mathlib.Numerals.{add-one}
 use native.Mathlib.Omega.{arith}
 use lib.Dec.{ltb}
 use lib.ListN.{length, set, length-set}
 use lib.Pow.{pow-pos, pow-add, pow-mono}
 use lib.Seq.{getD-set-same, getD-set-other}
+use mir.Val.{boolByte}
 use borrow.Author.Count.{below-none, below-more}
 use borrow.Author.Tests.{eqb-true, eq-eqb, ltb-true, ltb-false, lt-ltb}
 use Rattle.job.proofs.TestLaws.{both}
@@ -65,6 +66,15 @@ module _ (setting : Setting) (places : List Place) (at : ℕ) where
         {o : Outcome} → o ≡ movedAt setting places at i → set now i (o .place) ≡ placesUpto setting places at (i + 1)
     unfolding placesUpto
     place-more e = rw (add-one, so-far, e)
+
+-- a truth value as a number
+pub byte-high : (b : Bool) → boolByte b ≤ 1
+byte-high true = omega arith
+byte-high false = omega arith
+
+pub plus-byte : (b : Bool) (x : ℕ) → x + boolByte b ≡ cond b (x + 1) x
+plus-byte true x = refl
+plus-byte false x = add-zero x
 
 -- a set as a mask, and how many it holds
 

@@ -26,9 +26,9 @@ use Rattle.run.specs.State.{zeros, freshOf}
 use Rattle.run.specs.Sound.{SoundState}
 use Rattle.run.specs.Step.{startTold, startState}
 use Rattle.run.specs.Meaning.{AllZeros, ZerosAll, Opens, FreshOpens, StartAnswers}
-use Rattle.job.proofs.ToldLaws.{told-refuses, apart, valued, checked-one-to-one}
+use Rattle.job.proofs.ToldLaws.{told-refuses, apart, checked-one-to-one}
 use Rattle.job.specs.Meaning.{ListRows}
-use Rattle.job.proofs.Meaning.{list-checks, ListView, no-jobs, many-jobs, sound-list, faulty-list, list-view, fault-refuses, passes-exactly, row-one-exactly, row-two-exactly, job-rows-exactly}
+use Rattle.job.proofs.Meaning.{list-checks, passes-exactly, sound-or, no-other-row}
 use Rattle.place.specs.Meaning.{placeOfZeros}
 use Rattle.place.proofs.Meaning.{allowed-exactly}
 use Rattle.run.proofs.FreshLaws.{fresh-at, fresh-sound}
@@ -53,15 +53,6 @@ state-passed l s e = state-by l s passed e
 pub state-refused : (l : JobList) (s : Setting) (r : Refusal) → startTold l s ≡ told r → startState l s ≡ zeros
 state-refused l s r e = state-by l s (told r) e ∙ ap (λ (b : Bool). cond b (freshOf l s) zeros) (told-refuses r)
 
-never-fifteen : (l : JobList) → listTold l ≡ row 15 [] → ⊥
-never-fifteen l e = go (list-view l)
-  where
-    go : ListView l → ⊥
-    go (no-jobs h) = apart (sym (row-one-exactly l .1 h) ∙ e) refl
-    go (many-jobs h) = apart (sym (row-two-exactly l .1 h) ∙ e) refl
-    go (sound-list h) = apart (sym (passes-exactly l .1 h) ∙ e) refl
-    go (faulty-list n i h) = valued (sym (job-rows-exactly l n i .1 h) ∙ e)
-
 -- an allowed setting, or row 15
 pub allowed-or : (l : JobList) (s : Setting) → Allowed s ⊎ (startTold l s ≡ row 15 [])
 allowed-or l s = go (settingAllowed s) refl
@@ -72,7 +63,7 @@ allowed-or l s = go (settingAllowed s) refl
 
 pub start-row-fifteen : (l : JobList) (s : Setting) → (startTold l s ≡ row 15 []) ↔ (Allowed s → ⊥)
 start-row-fifteen l s =
-    (λ e a. never-fifteen l (sym (start-checks l s a) ∙ e), λ n. ⊎-elim (λ a. absurd (n a)) (λ e. e) (allowed-or l s))
+    (λ e a. no-other-row l refl refl refl (sym (start-checks l s a) ∙ e), λ n. ⊎-elim (λ a. absurd (n a)) (λ e. e) (allowed-or l s))
 
 pub start-sound : (l : JobList) (s : Setting) → startTold l s ≡ passed → SoundState (startState l s)
 start-sound l s e =
@@ -83,16 +74,11 @@ start-sound l s e =
 -- a start that does not pass has the number of its row
 refused-number : (l : JobList) (s : Setting) → (startTold l s ≡ passed → ⊥) → eqb (startTold l s .number) 0 ≡ false
 refused-number l s refused =
-    ⊎-elim (λ a. rw (start-checks l s a) (go a (list-view l))) (λ e. ap (λ (t : Told). eqb (t .number) 0) e) (allowed-or l s)
-  where
-    number : {t : Told} → listTold l ≡ t → eqb (listTold l .number) 0 ≡ eqb (t .number) 0
-    number e = ap (λ (t : Told). eqb (t .number) 0) e
-
-    go : Allowed s → ListView l → eqb (listTold l .number) 0 ≡ false
-    go a (no-jobs h) = number (row-one-exactly l .1 h)
-    go a (many-jobs h) = number (row-two-exactly l .1 h)
-    go a (sound-list h) = absurd (refused (start-checks l s a ∙ passes-exactly l .1 h))
-    go a (faulty-list n i h) = number (job-rows-exactly l n i .1 h) ∙ fault-refuses (jobAt (l .jobs) i) n (h .fault)
+    ⊎-elim
+    (λ a.
+    rw (start-checks l s a)
+    (⊎-elim (λ h. absurd (refused (start-checks l s a ∙ passes-exactly l .1 h))) (λ e. e) (sound-or l)))
+    (λ e. ap (λ (t : Told). eqb (t .number) 0) e) (allowed-or l s)
 
 all-zeros : AllZeros zeros
 all-zeros =

@@ -2,4 +2,5 @@
 pub mod WrittenLaws
 pub mod WrittenParts
 pub mod DecimalLaws
+pub mod WordLaws
 pub mod PrintLaws

@@ -5,6 +5,10 @@ ghost use lib.ListN.{length};
 ghost use Rattle.text.specs.Written.{written};
 ghost use Rattle.text.specs.Decimal.{decimalOf, digitsOf};
 
+mod word;
+
+pub use word::put_word;
+
 // Writes the text from the place `at` on, and answers the place after it.
 pub fn put_text(buf: &mut [u8], at: usize, text: &[u8]) -> usize
     requires { ⌜ at + length (now text) ≤ length (now buf) ⌝ }

@@ -1,16 +1,14 @@
 -- The writer's loop: what holds before each slot, and along its pass over the places.
 use mathlib.Core.Path.{_≡_, refl, sym, ap, subst, _∙_}
-use mathlib.Core.Bool.{Bool, true, false, cond}
+use mathlib.Core.Bool.{true, cond}
 use mathlib.Core.List.{List, [], _∷_, _++_}
 use Prim.Native.Nat.{ℕ, zero, suc, _+_, _*_, _≤_, _<_}
-use native.Mathlib.Nat.{add-zero}
 use native.Mathlib.Numerals.{add-one}
 use native.Mathlib.Omega.{arith}
 use lib.Dec.{eqb}
 use lib.ListN.{length, take, set, length-set}
 use lib.Seq.{getD-set-same, getD-set-other, take-all, take-suc-set}
 use borrow.Author.Tests.{eqb-true}
-use mir.Val.{boolByte}
 use Rattle.job.specs.Limit.{countMost}
 use Rattle.place.specs.declared.setting.Setting.{Setting}
 use Rattle.place.specs.declared.record.Place.{Place}
@@ -34,15 +32,6 @@ use Rattle.run.proofs.HereLaws.{job-sound}
 use Rattle.run.proofs.SlotLaws.{placed-length, placed-now, place-more, count-high, count-more}
 use Rattle.run.proofs.ChoiceLaws.{ChoiceView, none-chosen, one-chosen, choice-view, chosen-candidate}
 use Rattle.run.proofs.RunLaws.{after-more, choices-more, after-setting, after-count, after-clock, after-sound}
-
--- a truth value as a number
-pub byte-high : (b : Bool) → boolByte b ≤ 1
-byte-high true = omega arith
-byte-high false = omega arith
-
-pub plus-byte : (b : Bool) (x : ℕ) → x + boolByte b ≡ cond b (x + 1) x
-plus-byte true x = refl
-plus-byte false x = add-zero x
 
 -- what is known of the places as a slot begins
 pub record Ready (setting : Setting) (count : ℕ) (places : List Place) (chosen : ℕ) : Type 0 where

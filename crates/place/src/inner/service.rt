@@ -4,7 +4,7 @@ ghost use mathlib.Core.Bool.{true, false};
 ghost use lib.Dec.{ltb};
 ghost use Rattle.place.specs.Sound.{SoundPlace};
 ghost use Rattle.place.specs.Setting.{byUnits};
-ghost use Rattle.place.specs.Place.{finishedOf, owedOf, windowLeft, leftOf, eligibleOf, numeratorOf, overdueOf, finishesOf, tagsOf, firstTagged, servedOf, givenOf, taggedOf, windowEnds, turnedOf, shortOf, movedOf};
+ghost use Rattle.place.specs.Place.{finishedOf, owedOf, windowLeft, leftOf, eligibleOf, numeratorOf, overdueOf, finishesOf, tagsOf, firstTagged, servedOf, givenOf, taggedOf, turnedOf, shortOf, movedOf, passedOf};
 ghost use Rattle.place.specs.Choice.{takesSpare, candidateOf};
 use crate::record::Place;
 use crate::record::Progress;
@@ -15,6 +15,12 @@ use job::Job;
 pub struct Outcome {
     pub place: Place,
     pub tagged: bool,
+    pub short: bool,
+}
+
+// A place after a slot whose tag nobody asks for.
+pub struct Passage {
+    pub place: Place,
     pub short: bool,
 }
 
@@ -203,20 +209,19 @@ fn tagged(q: Place, tags: bool) -> Place
     next
 }
 
-// Whether this slot is the window's last.
-fn window_ends(setting: Setting, q: Place) -> bool
-    requires { ⌜ SoundPlace setting q ⌝ }
-    ensures { λ r. ⌜ r ≡ windowEnds q ⌝ }
-{
-    (q.at.e + 1 == q.job.t) & (q.at.p == q.job.k)
-}
-
-// 'A window is short exactly if it ends with m' > 0.'
+// 'A window is short exactly if it ends with m' > 0.' It is asked for the window's end as in `turned`,
+// so that the compiled slot tests for it once.
 fn is_short(setting: Setting, q: Place) -> bool
     requires { ⌜ SoundPlace setting q ⌝ }
     ensures { λ r. ⌜ r ≡ shortOf setting q ⌝ }
 {
-    window_ends(setting, q) & lacks(setting, q)
+    if q.at.e + 1 < q.job.t {
+        return false;
+    }
+    if q.at.p < q.job.k {
+        return false;
+    }
+    lacks(setting, q)
 }
 
 // The slot passes: 'Where e reaches T the period ends; where the k-th period ends, the window ends.'
@@ -259,4 +264,17 @@ pub fn moved(setting: Setting, q: Place, chosen: bool) -> Outcome
         tagged: first,
         short,
     }
+}
+
+// The same with the tag left as it is, where nobody asks for it: no choice and no short window depends
+// on it.
+pub fn passed(setting: Setting, q: Place, chosen: bool) -> Passage
+    requires { ⌜ SoundPlace setting q ⌝ }
+    requires { ⌜ (chosen ≡ true → candidateOf setting q ≡ true) ⌝ }
+    ensures { λ r. ⌜ r ≡ passedOf setting q chosen ⌝ }
+{
+    let worked = given(setting, q, chosen);
+    let short = is_short(setting, worked);
+    let place = turned(setting, worked);
+    Passage { place, short }
 }

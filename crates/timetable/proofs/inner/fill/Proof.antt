@@ -5,7 +5,8 @@ use Prim.Native.Nat.{_-_}
 use native.Mathlib.Omega.{arith}
 use lib.ListN.{length}
 use borrow.Author.Needs.{needs}
-use Rattle.timetable.proofs.FillLaws.{byte-high, plus-byte, Ready, Filling, Passing, fill-starts, fill-chosen, fill-ready, fill-totals, fill-more, pass-starts, pass-sound, pass-fair, pass-counts, pass-moved-sound, pass-more, pass-done, done-state, done-bytes}
+use Rattle.run.proofs.SlotLaws.{byte-high, plus-byte}
+use Rattle.timetable.proofs.FillLaws.{Ready, Filling, Passing, fill-starts, fill-chosen, fill-ready, fill-totals, fill-more, pass-starts, pass-sound, pass-fair, pass-counts, pass-moved-sound, pass-more, pass-done, done-state, done-bytes}
 use Rattle.timetable.proofs.inner.fill.Statement.{statement}
 use Rattle.timetable.proofs.inner.fill.Tie as tie
 

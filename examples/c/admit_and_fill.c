@@ -1,9 +1,7 @@
 /* One second of the board, from C: is the list admitted, and who gets which slot? And in the binned
  * mode, which job can fall below its stated part?
  *
- * Slots are 250 microseconds, so a second has 4,000. Build it as tests/gate/c-entry does:
- *     rt staticlib entry
- *     gcc -std=c99 -I include examples/c/admit_and_fill.c target/staticlib/libentry.a
+ * Slots are 250 microseconds, so a second has 4,000. Build it as README.md says.
  */
 #include <stdio.h>
 
@@ -12,9 +10,11 @@
 #define SLOTS 4000
 #define SHOWN 40
 
+/* As wide as its bytes, so that a number that does not fit is the compiler's to tell. */
 struct job {
     const char *name;
-    unsigned c, t, m, k;
+    uint16_t c, t;
+    uint8_t m, k;
 };
 
 /* The board's jobs: slots for an instance, slots in a period, and how many of how many periods. */
@@ -44,8 +44,8 @@ static void put_job(uint8_t *at, const struct job *job)
     at[1] = (uint8_t)(job->c >> 8);
     at[2] = (uint8_t)(job->t & 0xff);
     at[3] = (uint8_t)(job->t >> 8);
-    at[4] = (uint8_t)job->m;
-    at[5] = (uint8_t)job->k;
+    at[4] = job->m;
+    at[5] = job->k;
 }
 
 /* 32 bits, low byte first. */
@@ -64,9 +64,9 @@ static int show_binned(void)
     for (i = 0; i < BINNED; i++) {
         put_job(jobs + i * FILBERTOSS_JOB_BYTES, &binned[i]);
     }
-    answer = filbertoss_below(jobs, sizeof jobs, FILBERTOSS_ORDER_W, FILBERTOSS_RELAXED, 0, told,
-                              sizeof told);
-    if (answer != 0) {
+    answer = filbertoss_below(jobs, sizeof jobs, FILBERTOSS_ORDER_W, FILBERTOSS_RELAXED,
+                              FILBERTOSS_SPARE_OFF, told, sizeof told);
+    if (answer != FILBERTOSS_OK) {
         printf("no answer: refusal %lu\n", (unsigned long)answer);
         return 1;
     }
@@ -97,7 +97,7 @@ int main(void)
     }
 
     answer = filbertoss_admit(jobs, sizeof jobs, FILBERTOSS_RELAXED);
-    if (answer == 0) {
+    if (answer == FILBERTOSS_OK) {
         printf("admitted\n");
     } else {
         printf("not admitted: refusal %lu\n", (unsigned long)answer);
@@ -105,7 +105,7 @@ int main(void)
 
     answer = filbertoss_fill(jobs, sizeof jobs, FILBERTOSS_ORDER_W, FILBERTOSS_RELAXED, slots,
                              sizeof slots, 0, SLOTS);
-    if (answer != 0) {
+    if (answer != FILBERTOSS_OK) {
         printf("no timetable: refusal %lu\n", (unsigned long)answer);
         return 1;
     }

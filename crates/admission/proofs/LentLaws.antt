@@ -10,38 +10,38 @@ use lib.ListN.{length}
 use lib.WfN.{lt-wf_rel}
 use Rattle.job.specs.declared.record.Job.{Job}
 use Rattle.job.specs.declared.list.JobList.{JobList}
-use Rattle.job.specs.Limit.{countMost}
-use Rattle.job.specs.Check.{jobAt}
-use Rattle.job.specs.Filled.{filledUpto, emptyList, listUpto}
-use Rattle.admission.specs.Lent.{putJob}
-use Rattle.job.proofs.WalkLaws.{below-first, below-second, at-the-end}
+use Rattle.job.specs.Limit.{count_most}
+use Rattle.job.specs.Check.{job_at}
+use Rattle.job.specs.Filled.{filled_upto, empty_list, list_upto}
+use Rattle.admission.specs.Lent.{put_job}
+use Rattle.job.proofs.WalkLaws.{below_first, below_second, at_the_end}
 
 -- the list with the first n jobs of the slice put
-abbrev pub gatherUpto : List Job → ℕ → JobList
-gatherUpto xs n = listUpto (jobAt xs) (length xs) n
+abbrev pub gather_upto : List Job → ℕ → JobList
+gather_upto xs n = list_upto (job_at xs) (length xs) n
 
-pub gather_none : (xs : List Job) → emptyList (length xs) ≡ gatherUpto xs 0
-unfolding filledUpto
+pub gather_none : (xs : List Job) → empty_list (length xs) ≡ gather_upto xs 0
+unfolding filled_upto
 gather_none xs = refl
 
-pub gather-more : (xs : List Job) (i : ℕ) → putJob (gatherUpto xs i) i (jobAt xs i) ≡ gatherUpto xs (suc i)
-unfolding filledUpto
-gather-more xs i = refl
+pub gather_more : (xs : List Job) (i : ℕ) → put_job (gather_upto xs i) i (job_at xs i) ≡ gather_upto xs (suc i)
+unfolding filled_upto
+gather_more xs i = refl
 
 -- the test before record i of n
-abbrev pub goesOn : ℕ → ℕ → Bool
-goesOn i n = ltb i n && ltb i countMost
+abbrev pub goes_on : ℕ → ℕ → Bool
+goes_on i n = ltb i n && ltb i count_most
 
-pub goes_on : (i n : ℕ) → goesOn i n ≡ true → (i < n) × (i < countMost)
-goes_on i n e = (below-first i n countMost e, below-second i n countMost e)
+pub goes_on_lem : (i n : ℕ) → goes_on i n ≡ true → (i < n) × (i < count_most)
+goes_on_lem i n e = (below_first i n count_most e, below_second i n count_most e)
 
 -- where it first fails, all records that are wanted are there
-pub ends : (i n : ℕ) → i ≤ n → i ≤ countMost → goesOn i n ≡ false → i ≡ min n countMost
-ends i n within most e = at-the-end i n countMost e within most
+pub ends : (i n : ℕ) → i ≤ n → i ≤ count_most → goes_on i n ≡ false → i ≡ min n count_most
+ends i n within most e = at_the_end i n count_most e within most
 
 -- each turn leaves fewer places
 abbrev pub Fewer : ℕ → ℕ → Type 0
-Fewer j i = countMost - j < countMost - i
+Fewer j i = count_most - j < count_most - i
 
-pub fewer-ends : WellFounded Fewer
-fewer-ends = InvImage.wf (λ (i : ℕ). countMost - i) lt-wf_rel.wf
+pub fewer_ends : WellFounded Fewer
+fewer_ends = InvImage.wf (λ (i : ℕ). count_most - i) lt-wf_rel.wf

@@ -7,60 +7,60 @@ use native.Mathlib.Omega.{arith}
 use lib.Dec.{eqb, ltb}
 use borrow.Author.Tests.{lt-ltb, le-ltb, eq-eqb, ne_eqb}
 use Rattle.job.specs.declared.list.JobList.{JobList}
-use Rattle.job.specs.Limit.{relaxed, original, cycleMost}
+use Rattle.job.specs.Limit.{relaxed, original, cycle_most}
 use Rattle.job.specs.Told.{Told, row, passed}
-use Rattle.job.specs.Check.{otherwise, listTold}
-use Rattle.job.proofs.CheckLaws.{otherwise-passed, otherwise-refused}
-use Rattle.admission.specs.Cycle.{cycleOf}
+use Rattle.job.specs.Check.{otherwise, list_told}
+use Rattle.job.proofs.CheckLaws.{otherwise_passed, otherwise_refused}
+use Rattle.admission.specs.Cycle.{cycle_of}
 use Rattle.admission.specs.Load.{load_of}
-use Rattle.admission.specs.Verdict.{judgedTold, verdictTold}
+use Rattle.admission.specs.Verdict.{judged_told, verdict_told}
 
 -- cycle and load
-judged-by : (h d : ℕ) (over : Bool) → ltb h d ≡ over → judgedTold h d ≡ cond over (row 9 (h ∷ d ∷ [])) (row 0 (h ∷ d ∷ []))
-unfolding judgedTold
-judged-by h d over e = rw e
+judged_by : (h d : ℕ) (over : Bool) → ltb h d ≡ over → judged_told h d ≡ cond over (row 9 (h ∷ d ∷ [])) (row 0 (h ∷ d ∷ []))
+unfolding judged_told
+judged_by h d over e = rw e
 
-pub judged-over : {h d : ℕ} → h < d → judgedTold h d ≡ row 9 (h ∷ d ∷ [])
-judged-over {h} {d} over = judged-by h d true (lt-ltb h d over)
+pub judged_over : {h d : ℕ} → h < d → judged_told h d ≡ row 9 (h ∷ d ∷ [])
+judged_over {h} {d} over = judged_by h d true (lt-ltb h d over)
 
-pub judged-admitted : {h d : ℕ} → d ≤ h → judgedTold h d ≡ row 0 (h ∷ d ∷ [])
-judged-admitted {h} {d} within = judged-by h d false (le-ltb h d within)
+pub judged_admitted : {h d : ℕ} → d ≤ h → judged_told h d ≡ row 0 (h ∷ d ∷ [])
+judged_admitted {h} {d} within = judged_by h d false (le-ltb h d within)
 
 -- what is decided of a list that passes
-abbrev passedTold : JobList → Bool → Bool → Told
-passedTold l other long = cond other (row 7 []) (cond long (row 8 []) (judgedTold (cycleOf l) (load_of l (cycleOf l))))
+abbrev passed_told : JobList → Bool → Bool → Told
+passed_told l other long = cond other (row 7 []) (cond long (row 8 []) (judged_told (cycle_of l) (load_of l (cycle_of l))))
 
 module _ (l : JobList) (model : ℕ) where
-  verdict-by :
-      (strange other long : Bool) → ltb original model ≡ strange → eqb model original ≡ other → ltb cycleMost (cycleOf l) ≡ long
-      → verdictTold l model ≡ cond strange (row 15 []) (otherwise (listTold l) (passedTold l other long))
-  unfolding verdictTold
-  verdict-by strange other long e f g = simp (e, f, g)
+  verdict_by :
+      (strange other long : Bool) → ltb original model ≡ strange → eqb model original ≡ other → ltb cycle_most (cycle_of l) ≡ long
+      → verdict_told l model ≡ cond strange (row 15 []) (otherwise (list_told l) (passed_told l other long))
+  unfolding verdict_told
+  verdict_by strange other long e f g = simp (e, f, g)
 
-  pub verdict-strange : original < model → verdictTold l model ≡ row 15 []
-  verdict-strange strange = verdict-by true _ _ (lt-ltb original model strange) refl refl
+  pub verdict_strange : original < model → verdict_told l model ≡ row 15 []
+  verdict_strange strange = verdict_by true _ _ (lt-ltb original model strange) refl refl
 
-  pub verdict-refused : {t : Told} → model ≤ original → listTold l ≡ t → eqb t.number 0 ≡ false → verdictTold l model ≡ t
-  verdict-refused {t} allowed e refuses =
-      verdict-by false _ _ (le-ltb original model allowed) refl refl
-      ∙ otherwise-refused (listTold l) _ (ap (λ (x : Told). eqb x.number 0) e ∙ refuses)
+  pub verdict_refused : {t : Told} → model ≤ original → list_told l ≡ t → eqb t.number 0 ≡ false → verdict_told l model ≡ t
+  verdict_refused {t} allowed e refuses =
+      verdict_by false _ _ (le-ltb original model allowed) refl refl
+      ∙ otherwise_refused (list_told l) _ (ap (λ (x : Told). eqb x.number 0) e ∙ refuses)
       ∙ e
 
-  module _ (passes : listTold l ≡ passed) where
-    pub verdict-original : model ≡ original → verdictTold l model ≡ row 7 []
-    verdict-original same =
-        verdict-by false true _ (le-ltb original model (omega arith)) (eq-eqb model original same) refl
-        ∙ otherwise-passed _ passes
+  module _ (passes : list_told l ≡ passed) where
+    pub verdict_original : model ≡ original → verdict_told l model ≡ row 7 []
+    verdict_original same =
+        verdict_by false true _ (le-ltb original model (omega arith)) (eq-eqb model original same) refl
+        ∙ otherwise_passed _ passes
 
-    verdict-relaxed :
-        (long : Bool) → model ≡ relaxed → ltb cycleMost (cycleOf l) ≡ long → verdictTold l model ≡ passedTold l false long
-    verdict-relaxed long same e =
-        verdict-by false false long (le-ltb original model (omega arith)) (ne_eqb model original (omega arith)) e
-        ∙ otherwise-passed _ passes
+    verdict_relaxed :
+        (long : Bool) → model ≡ relaxed → ltb cycle_most (cycle_of l) ≡ long → verdict_told l model ≡ passed_told l false long
+    verdict_relaxed long same e =
+        verdict_by false false long (le-ltb original model (omega arith)) (ne_eqb model original (omega arith)) e
+        ∙ otherwise_passed _ passes
 
-    pub verdict-long : model ≡ relaxed → cycleMost < cycleOf l → verdictTold l model ≡ row 8 []
-    verdict-long same long = verdict-relaxed true same (lt-ltb cycleMost (cycleOf l) long)
+    pub verdict_long : model ≡ relaxed → cycle_most < cycle_of l → verdict_told l model ≡ row 8 []
+    verdict_long same long = verdict_relaxed true same (lt-ltb cycle_most (cycle_of l) long)
 
-    pub verdict-judged :
-        model ≡ relaxed → cycleOf l ≤ cycleMost → verdictTold l model ≡ judgedTold (cycleOf l) (load_of l (cycleOf l))
-    verdict-judged same short = verdict-relaxed false same (le-ltb cycleMost (cycleOf l) short)
+    pub verdict_judged :
+        model ≡ relaxed → cycle_of l ≤ cycle_most → verdict_told l model ≡ judged_told (cycle_of l) (load_of l (cycle_of l))
+    verdict_judged same short = verdict_relaxed false same (le-ltb cycle_most (cycle_of l) short)

@@ -2,10 +2,10 @@
 use Rattle.std.specs.Prelude.{ℕ, zero, suc, ◌*◌, ◌/◌, cond, List, [], ◌∷◌, leb}
 use Rattle.job.specs.declared.record.Job.{Job}
 use Rattle.job.specs.declared.list.JobList.{JobList}
-use Rattle.job.specs.Limit.{cycleMost}
+use Rattle.job.specs.Limit.{cycle_most}
 use Rattle.job.specs.Told.{Told, row}
-use Rattle.job.specs.Window.{windowOf}
-use Rattle.job.specs.Check.{jobAt}
+use Rattle.job.specs.Window.{window_of}
+use Rattle.job.specs.Check.{job_at}
 use Rattle.admission.specs.declared.inner.Cycle.{Cycle}
 use Rattle.admission.specs.declared.inner.Cycle.TheVariants.{Of, TooLong}
 use Rattle.admission.specs.Divisor.{gcd}
@@ -14,17 +14,17 @@ unfoldable pub lcm : ℕ → ℕ → ℕ
 lcm a b = a / gcd a b * b
 
 -- the cycle of the first n jobs
-unfoldable pub cycleUpto : List Job → ℕ → ℕ
-cycleUpto jobs zero = 1
-cycleUpto jobs (suc n) = lcm (cycleUpto jobs n) (windowOf (jobAt jobs n))
+unfoldable pub cycle_upto : List Job → ℕ → ℕ
+cycle_upto jobs zero = 1
+cycle_upto jobs (suc n) = lcm (cycle_upto jobs n) (window_of (job_at jobs n))
 
-abbrev pub cycleOf : JobList → ℕ
-cycleOf l = cycleUpto l.jobs l.count
+abbrev pub cycle_of : JobList → ℕ
+cycle_of l = cycle_upto l.jobs l.count
 
 -- '8: cycle over the limit'
-unfoldable pub cycleTold : JobList → Told
-cycleTold l = cond (leb (cycleOf l) cycleMost) (row 0 (cycleOf l ∷ [])) (row 8 [])
+unfoldable pub cycle_told : JobList → Told
+cycle_told l = cond (leb (cycle_of l) cycle_most) (row 0 (cycle_of l ∷ [])) (row 8 [])
 
-abbrev pub toldCycle : Cycle → Told
-toldCycle (Of h) = row 0 (h ∷ [])
-toldCycle TooLong = row 8 []
+abbrev pub told_cycle : Cycle → Told
+told_cycle (Of h) = row 0 (h ∷ [])
+told_cycle TooLong = row 8 []

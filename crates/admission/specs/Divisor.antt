@@ -9,10 +9,10 @@ pub record GreatestDivisor (a b d : ℕ) : Type 0 where
   pub greatest : (x : ℕ) → x ∣ a → x ∣ b → x ∣ d
 
 -- Euclid's rule, in at most n steps
-unfoldable pub gcdIn : ℕ → ℕ → ℕ → ℕ
-gcdIn zero a b = a
-gcdIn (suc n) a b = elim (eqb b 0) [ true ↦ a | false ↦ gcdIn n b (a % b) ]
+unfoldable pub gcd_in : ℕ → ℕ → ℕ → ℕ
+gcd_in zero a b = a
+gcd_in (suc n) a b = elim (eqb b 0) [ true ↦ a | false ↦ gcd_in n b (a % b) ]
 
 -- b falls with each step, so b steps are enough
 unfoldable pub gcd : ℕ → ℕ → ℕ
-gcd a b = gcdIn b a b
+gcd a b = gcd_in b a b

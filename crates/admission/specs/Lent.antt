@@ -3,17 +3,17 @@ use Rattle.std.specs.Prelude.{ℕ, List, length, set}
 use Rattle.job.specs.declared.record.Job.{Job}
 use Rattle.job.specs.declared.list.JobList.{JobList}
 use Rattle.job.specs.Told.{Told}
-use Rattle.job.specs.Check.{jobAt}
-use Rattle.job.specs.Filled.{listBy}
-use Rattle.admission.specs.Verdict.{verdictTold}
+use Rattle.job.specs.Check.{job_at}
+use Rattle.job.specs.Filled.{list_by}
+use Rattle.admission.specs.Verdict.{verdict_told}
 
-abbrev pub putJob : JobList → ℕ → Job → JobList
-putJob l i j = record { jobs = set l.jobs i j; count = l.count }
+abbrev pub put_job : JobList → ℕ → Job → JobList
+put_job l i j = record { jobs = set l.jobs i j; count = l.count }
 
 -- a list of any length as a list by value
 abbrev pub list_of : List Job → JobList
-list_of xs = listBy (jobAt xs) (length xs)
+list_of xs = list_by (job_at xs) (length xs)
 
 -- admission of a list of any length
-abbrev pub admitOf : List Job → ℕ → Told
-admitOf xs model = verdictTold (list_of xs) model
+abbrev pub admit_of : List Job → ℕ → Told
+admit_of xs model = verdict_told (list_of xs) model

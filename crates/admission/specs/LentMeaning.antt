@@ -2,16 +2,16 @@
 -- proofs/, under its name.
 use Rattle.std.specs.Prelude.{◌≡◌, List, ℕ, ◌<◌, min, length, get_or, take}
 use Rattle.job.specs.declared.record.Job.{Job}
-use Rattle.job.specs.Limit.{countMost}
-use Rattle.job.specs.Check.{noJob}
+use Rattle.job.specs.Limit.{count_most}
+use Rattle.job.specs.Check.{no_job}
 use Rattle.admission.specs.declared.answer.Admission.{Admission}
-use Rattle.admission.specs.Answer.{toldAdmission}
+use Rattle.admission.specs.Answer.{told_admission}
 use Rattle.admission.specs.Promise.{VerdictPromise, AdmitPromise, AdmitFirstPromise}
 use Rattle.admission.specs.Meaning.{VerdictRows}
 
 -- what a verdict says of a list by value, said of a list of any length: its count is the length
 abbrev pub LentRows : List Job → ℕ → Admission → Type 0
-LentRows xs model r = VerdictRows (record { jobs = xs; count = length xs }) model (toldAdmission r)
+LentRows xs model r = VerdictRows (record { jobs = xs; count = length xs }) model (told_admission r)
 
 -- `admit`, of every row
 abbrev pub LentVerdicts : Type 0
@@ -26,5 +26,5 @@ FirstVerdicts =
 abbrev pub LentAsByValue : Type 0
 LentAsByValue =
     (xs jobs : List Job) (model : ℕ) (r q : Admission)
-    → ((i : ℕ) → i < min (length xs) countMost → get_or jobs i noJob ≡ get_or xs i noJob)
+    → ((i : ℕ) → i < min (length xs) count_most → get_or jobs i no_job ≡ get_or xs i no_job)
     → AdmitPromise xs model r → VerdictPromise (record { jobs = jobs; count = length xs }) model q → r ≡ q

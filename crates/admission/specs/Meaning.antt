@@ -4,23 +4,23 @@ use Rattle.std.specs.Prelude.{◌≡◌, ◌↔◌, [], ◌∷◌, ℕ, ◌≤�
 use Rattle.job.specs.declared.list.JobList.{JobList}
 use Rattle.job.specs.declared.refusal.Refusal.{Refusal}
 use Rattle.job.specs.declared.refusal.Refusal.TheVariants.{Overload}
-use Rattle.job.specs.Limit.{countMost, relaxed, original, cycleMost}
+use Rattle.job.specs.Limit.{count_most, relaxed, original, cycle_most}
 use Rattle.job.specs.Told.{Told, row}
 use Rattle.job.specs.Sound.{SoundList, LowestFault}
 use Rattle.admission.specs.declared.answer.Admission.{Admission}
 use Rattle.admission.specs.declared.answer.Admission.TheVariants.{Admitted, Refused}
 use Rattle.admission.specs.Divisor.{GreatestDivisor}
 use Rattle.admission.specs.Judged.{LeastCommonMultiple, Judged}
-use Rattle.admission.specs.Answer.{toldAdmission}
+use Rattle.admission.specs.Answer.{told_admission}
 use Rattle.admission.specs.Promise.{AdmissionNumberPromise, CyclePromise, LoadPromise, DivisorPromise, VerdictPromise}
 
 -- an answer is determined by the paper's number and values
 abbrev pub AdmissionOneToOne : Type 0
-AdmissionOneToOne = (a b : Admission) → toldAdmission a ≡ toldAdmission b → a ≡ b
+AdmissionOneToOne = (a b : Admission) → told_admission a ≡ told_admission b → a ≡ b
 
 -- `Admission::number`: the row's number, 0 for none
 abbrev pub AdmissionNumbered : Type 0
-AdmissionNumbered = (a : Admission) (r : ℕ) → AdmissionNumberPromise a r → r ≡ (toldAdmission a).number
+AdmissionNumbered = (a : Admission) (r : ℕ) → AdmissionNumberPromise a r → r ≡ (told_admission a).number
 
 -- 'cycle and load are both returned'; they 'are 0 in each refusal but 9, which returns both'
 pub record Returned (promise : Admission → ℕ → Type 0) (part : ℕ → ℕ → ℕ) : Type 0 where
@@ -41,20 +41,20 @@ DivisorGreatest = (a b r : ℕ) → DivisorPromise a b r → GreatestDivisor a b
 -- `verdict`: what is told of list l and a model
 pub record VerdictRows (l : JobList) (model : ℕ) (t : Told) : Type 0 where
   -- '15: order or model number not 0 or 1', tested first
-  pub row-fifteen : (t ≡ row 15 []) ↔ (original < model)
+  pub row_fifteen : (t ≡ row 15 []) ↔ (original < model)
   -- rows 1 to 6, as in the check of a list
   pub row_one : (t ≡ row 1 []) ↔ ((model ≤ original) × (l.count ≡ 0))
-  pub row-two : (t ≡ row 2 []) ↔ ((model ≤ original) × (countMost < l.count))
-  pub job-rows : (n i : ℕ) → (t ≡ row n (i ∷ [])) ↔ ((model ≤ original) × LowestFault l n i)
+  pub row_two : (t ≡ row 2 []) ↔ ((model ≤ original) × (count_most < l.count))
+  pub job_rows : (n i : ℕ) → (t ≡ row n (i ∷ [])) ↔ ((model ≤ original) × LowestFault l n i)
   -- '7: original model'
-  pub row-seven : (t ≡ row 7 []) ↔ ((model ≡ original) × SoundList l)
+  pub row_seven : (t ≡ row 7 []) ↔ ((model ≡ original) × SoundList l)
   -- '8: cycle over the limit', however large
-  pub row-eight :
-      (t ≡ row 8 []) ↔ ((model ≡ relaxed) × SoundList l × (h : ℕ) × LeastCommonMultiple l h × (cycleMost < h))
+  pub row_eight :
+      (t ≡ row 8 []) ↔ ((model ≡ relaxed) × SoundList l × (h : ℕ) × LeastCommonMultiple l h × (cycle_most < h))
   -- '9: load above cycle'
-  pub row-nine : (h d : ℕ) → (t ≡ row 9 (h ∷ d ∷ [])) ↔ (Judged l model h d × (h < d))
+  pub row_nine : (h d : ℕ) → (t ≡ row 9 (h ∷ d ∷ [])) ↔ (Judged l model h d × (h < d))
   -- 'Admitted means load ≤ H; cycle and load are both returned.'
   pub admitted : (h d : ℕ) → (t ≡ row 0 (h ∷ d ∷ [])) ↔ (Judged l model h d × (d ≤ h))
 
 abbrev pub Verdicts : Type 0
-Verdicts = (l : JobList) (model : ℕ) (r : Admission) → VerdictPromise l model r → VerdictRows l model (toldAdmission r)
+Verdicts = (l : JobList) (model : ℕ) (r : Admission) → VerdictPromise l model r → VerdictRows l model (told_admission r)

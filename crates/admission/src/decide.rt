@@ -1,8 +1,8 @@
 // The verdict on a list by value: 15 for the model, 1, 2, 3 to 6, 7, 8, 9.
 ghost use Rattle.std.specs.Prelude.{◌≡◌};
-ghost use Rattle.admission.specs.Answer.{toldAdmission};
+ghost use Rattle.admission.specs.Answer.{told_admission};
 ghost use Rattle.admission.specs.Promise.{VerdictPromise};
-ghost use Rattle.admission.specs.Verdict.{judgedTold};
+ghost use Rattle.admission.specs.Verdict.{judged_told};
 
 use crate::answer::Admission;
 use crate::inner;
@@ -11,7 +11,7 @@ use job::{Checked, Job, JobList, Refusal};
 
 // 'Admitted means load ≤ H; cycle and load are both returned.'
 fn judged(cycle: u64, load: u64) -> Admission
-    ensures { toldAdmission result ≡ judgedTold cycle load }
+    ensures { told_admission result ≡ judged_told cycle load }
 {
     if cycle < load {
         return Admission::Refused(Refusal::Overload { cycle, load });

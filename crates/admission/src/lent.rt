@@ -1,9 +1,9 @@
 // Admission of a lent slice of job records, of any length: its first 16 are gathered into a list
 // by value, and the verdict is on that.
 ghost use Rattle.std.specs.Prelude.{◌≡◌, take, ◌<◌, ◌≤◌};
-ghost use Rattle.job.specs.Limit.{countMost};
-ghost use Rattle.admission.specs.Answer.{toldAdmission};
-ghost use Rattle.admission.specs.Lent.{putJob, list_of, admitOf};
+ghost use Rattle.job.specs.Limit.{count_most};
+ghost use Rattle.admission.specs.Answer.{told_admission};
+ghost use Rattle.admission.specs.Lent.{put_job, list_of, admit_of};
 ghost use Rattle.admission.specs.Promise.{AdmitPromise, AdmitFirstPromise};
 
 use crate::answer::Admission;
@@ -11,8 +11,8 @@ use crate::decide::verdict;
 use job::{Job, JobList};
 
 fn put(list: JobList, at: usize, job: Job) -> JobList
-    requires { at < countMost }
-    ensures { result ≡ putJob list at job }
+    requires { at < count_most }
+    ensures { result ≡ put_job list at job }
 {
     let mut filled = list;
     filled.jobs[at] = job;
@@ -42,7 +42,7 @@ pub fn admit(jobs: &[Job], model: u32) -> Admission
 // Lends the first `n` of an array by value, so that its caller has no slice of its own.
 fn lend_first(jobs: [Job; 40], n: usize, model: u32) -> Admission
     requires { n ≤ 40 }
-    ensures { toldAdmission result ≡ admitOf (take n jobs) model }
+    ensures { told_admission result ≡ admit_of (take n jobs) model }
 {
     admit(&jobs[..n], model)
 }

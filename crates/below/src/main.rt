@@ -2,7 +2,7 @@
 // stated part. Every line but `not judged` comes from a proved function; here they are only called
 // in order.
 ghost use Rattle.std.specs.Prelude.{◌≡◌, ◌+◌, ◌*◌, ◌≤◌, length};
-ghost use Rattle.job.specs.Limit.{countMost};
+ghost use Rattle.job.specs.Limit.{count_most};
 
 use job::Checked;
 use libc::{STDIN_FILENO, STDOUT_FILENO};
@@ -13,7 +13,7 @@ use shortfall::Judgement;
 fn put_jobs(out: &mut [u8], at: usize, count: usize, judged: Judgement) -> usize
     requires out_len { length out.old ≡ 4096 }
     requires at_bound { at ≤ 192 }
-    requires count_le_count_most { count ≤ countMost }
+    requires count_le_count_most { count ≤ count_most }
     ensures { result ≤ 192 * (count + 1) }
 {
     let mut end = at;
@@ -32,7 +32,7 @@ fn put_jobs(out: &mut [u8], at: usize, count: usize, judged: Judgement) -> usize
 fn put_judged(out: &mut [u8], at: usize, count: usize, judged: Judgement) -> usize
     requires out_len { length out.old ≡ 4096 }
     requires at_bound { at ≤ 192 }
-    requires count_le_count_most { count ≤ countMost }
+    requires count_le_count_most { count ≤ count_most }
     ensures { result ≤ 4096 }
 {
     let answer = judged.answer;
@@ -49,7 +49,7 @@ fn put_judged(out: &mut [u8], at: usize, count: usize, judged: Judgement) -> usi
 
 // At most 18 lines of 192 bytes each: one buffer holds them all.
 fn print_judged(sheet: Sheet)
-    requires { sheet.list.count ≤ countMost }
+    requires { sheet.list.count ≤ count_most }
 {
     let mut out = [0u8; 4096];
     let mut line = [0u8; 192];

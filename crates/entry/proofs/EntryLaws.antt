@@ -8,85 +8,85 @@ use lib.ListN.{length}
 use borrow.Author.Tests.{eq-eqb, ne_eqb}
 use Rattle.job.specs.Told.{Told, row}
 use Rattle.job.specs.Check.{otherwise}
-use Rattle.admission.specs.Verdict.{verdictTold}
+use Rattle.admission.specs.Verdict.{verdict_told}
 use Rattle.place.specs.declared.setting.Setting.{Setting}
-use Rattle.run.specs.Step.{startTold, startState}
-use Rattle.timetable.specs.Table.{writeTold, writeBytes}
+use Rattle.run.specs.Step.{start_told, start_state}
+use Rattle.timetable.specs.Table.{write_told, write_bytes}
 use Rattle.entry.specs.JobBytes.{list_from}
-use Rattle.entry.specs.Entry.{wholeJobs, admitTold, fillTold, fillBytes}
+use Rattle.entry.specs.Entry.{whole_jobs, admit_told, fill_told, fill_bytes}
 use Rattle.entry.specs.Meaning.{Whole}
-use Rattle.job.proofs.CheckLaws.{otherwise-refused}
+use Rattle.job.proofs.CheckLaws.{otherwise_refused}
 
 -- the test of row 14
 module _ (jobs : List ℕ) (t : Told) where
-  pub whole-told : Whole jobs → wholeJobs jobs t ≡ t
-  unfolding wholeJobs
-  whole-told whole = rw (eq-eqb (length jobs % 6) 0 whole)
+  pub whole_told : Whole jobs → whole_jobs jobs t ≡ t
+  unfolding whole_jobs
+  whole_told whole = rw (eq-eqb (length jobs % 6) 0 whole)
 
-  pub broken-told : (Whole jobs → ⊥) → wholeJobs jobs t ≡ row 14 []
-  unfolding wholeJobs
-  broken-told broken = rw (ne_eqb (length jobs % 6) 0 broken)
+  pub broken_told : (Whole jobs → ⊥) → whole_jobs jobs t ≡ row 14 []
+  unfolding whole_jobs
+  broken_told broken = rw (ne_eqb (length jobs % 6) 0 broken)
 
 -- admission
-pub admit-broken : (jobs : List ℕ) (model : ℕ) → (Whole jobs → ⊥) → admitTold jobs model ≡ row 14 []
-unfolding admitTold
-admit-broken jobs model broken = broken-told jobs _ broken
+pub admit_broken : (jobs : List ℕ) (model : ℕ) → (Whole jobs → ⊥) → admit_told jobs model ≡ row 14 []
+unfolding admit_told
+admit_broken jobs model broken = broken_told jobs _ broken
 
-pub admit-whole : (jobs : List ℕ) (model : ℕ) → Whole jobs → admitTold jobs model ≡ verdictTold (list_from jobs) model
-unfolding admitTold
-admit-whole jobs model whole = whole-told jobs _ whole
+pub admit_whole : (jobs : List ℕ) (model : ℕ) → Whole jobs → admit_told jobs model ≡ verdict_told (list_from jobs) model
+unfolding admit_told
+admit_whole jobs model whole = whole_told jobs _ whole
 
 -- a fill
-pub fill-broken :
-    (jobs : List ℕ) (setting : Setting) (len offset n : ℕ) → (Whole jobs → ⊥) → fillTold jobs setting len offset n ≡ row 14 []
-unfolding fillTold
-fill-broken jobs setting len offset n broken = broken-told jobs _ broken
+pub fill_broken :
+    (jobs : List ℕ) (setting : Setting) (len offset n : ℕ) → (Whole jobs → ⊥) → fill_told jobs setting len offset n ≡ row 14 []
+unfolding fill_told
+fill_broken jobs setting len offset n broken = broken_told jobs _ broken
 
-pub fill-starts :
+pub fill_starts :
     (jobs : List ℕ) (setting : Setting) (len offset n : ℕ) → Whole jobs
-    → eqb (startTold (list_from jobs) setting).number 0 ≡ false
-    → fillTold jobs setting len offset n ≡ startTold (list_from jobs) setting
-unfolding fillTold
-fill-starts jobs setting len offset n whole refused =
-    whole-told jobs _ whole ∙ otherwise-refused (startTold (list_from jobs) setting) _ refused
+    → eqb (start_told (list_from jobs) setting).number 0 ≡ false
+    → fill_told jobs setting len offset n ≡ start_told (list_from jobs) setting
+unfolding fill_told
+fill_starts jobs setting len offset n whole refused =
+    whole_told jobs _ whole ∙ otherwise_refused (start_told (list_from jobs) setting) _ refused
 
 -- it answers as the writer does on the state that was started, which also leaves the bytes
 pub record WritesOn (jobs : List ℕ) (setting : Setting) (bytes : List ℕ) (offset n : ℕ) : Type 0 where
   pub told_is :
-      fillTold jobs setting (length bytes) offset n
-      ≡ writeTold (startState (list_from jobs) setting) (length bytes) offset n
-  pub bytes-are :
-      fillBytes jobs setting bytes offset n ≡ writeBytes (startState (list_from jobs) setting) bytes offset n
+      fill_told jobs setting (length bytes) offset n
+      ≡ write_told (start_state (list_from jobs) setting) (length bytes) offset n
+  pub bytes_are :
+      fill_bytes jobs setting bytes offset n ≡ write_bytes (start_state (list_from jobs) setting) bytes offset n
 
 module _ (jobs : List ℕ) (setting : Setting) (bytes : List ℕ) (offset n : ℕ) where
   -- a refused fill leaves every byte
-  pub bytes-stay :
-      {t : Told} → fillTold jobs setting (length bytes) offset n ≡ t → eqb t.number 0 ≡ false
-      → bytes ≡ fillBytes jobs setting bytes offset n
-  unfolding fillBytes
-  bytes-stay told refused = rw (told, refused)
+  pub bytes_stay :
+      {t : Told} → fill_told jobs setting (length bytes) offset n ≡ t → eqb t.number 0 ≡ false
+      → bytes ≡ fill_bytes jobs setting bytes offset n
+  unfolding fill_bytes
+  bytes_stay told refused = rw (told, refused)
 
   -- one whose start has the number 0 goes on to the writer
-  module _ (whole : Whole jobs) (started : (startTold (list_from jobs) setting).number ≡ 0) where
+  module _ (whole : Whole jobs) (started : (start_told (list_from jobs) setting).number ≡ 0) where
     abbrev written : Told
-    written = writeTold (startState (list_from jobs) setting) (length bytes) offset n
+    written = write_told (start_state (list_from jobs) setting) (length bytes) offset n
 
-    goes_on : fillTold jobs setting (length bytes) offset n ≡ written
-    unfolding fillTold otherwise
-    goes_on = whole-told jobs _ whole ∙ rw (eq-eqb (startTold (list_from jobs) setting).number 0 started)
+    goes_on_lem : fill_told jobs setting (length bytes) offset n ≡ written
+    unfolding fill_told otherwise
+    goes_on_lem = whole_told jobs _ whole ∙ rw (eq-eqb (start_told (list_from jobs) setting).number 0 started)
 
-    bytes-by :
+    bytes_by :
         (b : Bool) → eqb written.number 0 ≡ b
-        → fillBytes jobs setting bytes offset n ≡ writeBytes (startState (list_from jobs) setting) bytes offset n
-    unfolding fillBytes writeBytes
-    bytes-by true e = rw (goes_on, e)
-    bytes-by false e = rw (goes_on, e)
+        → fill_bytes jobs setting bytes offset n ≡ write_bytes (start_state (list_from jobs) setting) bytes offset n
+    unfolding fill_bytes write_bytes
+    bytes_by true e = rw (goes_on_lem, e)
+    bytes_by false e = rw (goes_on_lem, e)
 
-    pub writes-on : WritesOn jobs setting bytes offset n
-    writes-on = record { told_is = goes_on; bytes-are = bytes-by (eqb written.number 0) refl }
+    pub writes_on : WritesOn jobs setting bytes offset n
+    writes_on = record { told_is = goes_on_lem; bytes_are = bytes_by (eqb written.number 0) refl }
 
-pub fill-keeps :
+pub fill_keeps :
     (jobs : List ℕ) (setting : Setting) (bytes : List ℕ) (offset n : ℕ)
-    → ((fillTold jobs setting (length bytes) offset n).number ≡ 0 → ⊥) → fillBytes jobs setting bytes offset n ≡ bytes
-fill-keeps jobs setting bytes offset n refused =
-    sym (bytes-stay jobs setting bytes offset n refl (ne_eqb (fillTold jobs setting (length bytes) offset n).number 0 refused))
+    → ((fill_told jobs setting (length bytes) offset n).number ≡ 0 → ⊥) → fill_bytes jobs setting bytes offset n ≡ bytes
+fill_keeps jobs setting bytes offset n refused =
+    sym (bytes_stay jobs setting bytes offset n refl (ne_eqb (fill_told jobs setting (length bytes) offset n).number 0 refused))

@@ -8,52 +8,52 @@ use Rattle.place.specs.declared.setting.Setting.{Setting}
 use Rattle.shortfall.specs.declared.answer.First.{First}
 use Rattle.shortfall.specs.declared.answer.First.TheVariants.{Never, Slot}
 use Rattle.shortfall.specs.declared.answer.Below.{Below}
-use Rattle.shortfall.specs.Shortfall.{noneBelow, shortfallTold, shortfallJobs}
+use Rattle.shortfall.specs.Shortfall.{none_below, shortfall_told, shortfall_jobs}
 use Rattle.entry.specs.JobBytes.{list_from}
-use Rattle.entry.specs.Entry.{wholeJobs}
+use Rattle.entry.specs.Entry.{whole_jobs}
 
 -- the first slot in which a window ends short; for never the clock's limit, a slot that is not run
-abbrev pub firstNumber : First → ℕ
-firstNumber Never = 4294967295
-firstNumber (Slot n) = n
+abbrev pub first_number : First → ℕ
+first_number Never = 4294967295
+first_number (Slot n) = n
 
 -- one job: windows a cycle, short windows a cycle, the first slot, each low byte first
-unfoldable pub answerBytes : Below → List ℕ
-answerBytes a = word_bytes a.windows ++ word_bytes a.short ++ word_bytes (firstNumber a.first)
+unfoldable pub answer_bytes : Below → List ℕ
+answer_bytes a = word_bytes a.windows ++ word_bytes a.short ++ word_bytes (first_number a.first)
 
 -- the first n jobs
-unfoldable pub answersUpto : List Below → ℕ → List ℕ
-answersUpto jobs zero = []
-answersUpto jobs (suc n) = answersUpto jobs n ++ answerBytes (get_or jobs n noneBelow)
+unfoldable pub answers_upto : List Below → ℕ → List ℕ
+answers_upto jobs zero = []
+answers_upto jobs (suc n) = answers_upto jobs n ++ answer_bytes (get_or jobs n none_below)
 
 -- 12: the buffer is shorter than 12 bytes a job
-unfoldable pub roomTold : ℕ → ℕ → Told
-roomTold count len = cond (ltb len (count * 12)) (row 12 []) passed
+unfoldable pub room_told : ℕ → ℕ → Told
+room_told count len = cond (ltb len (count * 12)) (row 12 []) passed
 
 -- 14, then the rows of `shortfall`, then 12
-unfoldable pub belowTold : List ℕ → Setting → ℕ → Told
-belowTold jobs setting len =
-    wholeJobs jobs (otherwise (shortfallTold (list_from jobs) setting) (roomTold (list_from jobs).count len))
+unfoldable pub below_told : List ℕ → Setting → ℕ → Told
+below_told jobs setting len =
+    whole_jobs jobs (otherwise (shortfall_told (list_from jobs) setting) (room_told (list_from jobs).count len))
 
 -- refused, no byte changes
-unfoldable pub belowBytes : List ℕ → Setting → List ℕ → List ℕ
-belowBytes jobs setting bytes =
-    cond (eqb (belowTold jobs setting (length bytes)).number 0)
-    (written bytes 0 (answersUpto (shortfallJobs (list_from jobs) setting) (list_from jobs).count))
+unfoldable pub below_bytes : List ℕ → Setting → List ℕ → List ℕ
+below_bytes jobs setting bytes =
+    cond (eqb (below_told jobs setting (length bytes)).number 0)
+    (written bytes 0 (answers_upto (shortfall_jobs (list_from jobs) setting) (list_from jobs).count))
     bytes
 
 -- 15 is also for a spare that is not 0 or 1
-abbrev pub strangeSpare : ℕ → Bool
-strangeSpare spare = ltb 1 spare
+abbrev pub strange_spare : ℕ → Bool
+strange_spare spare = ltb 1 spare
 
 -- the entry's setting: spare 0 is off, 1 is on
-abbrev pub settingBy : ℕ → ℕ → ℕ → Setting
-settingBy order model spare = record { order = order; model = model; spare = eqb spare 1 }
+abbrev pub setting_by : ℕ → ℕ → ℕ → Setting
+setting_by order model spare = record { order = order; model = model; spare = eqb spare 1 }
 
-unfoldable pub belowEntryTold : List ℕ → ℕ → ℕ → ℕ → ℕ → Told
-belowEntryTold jobs order model spare len =
-    wholeJobs jobs (cond (strangeSpare spare) (row 15 []) (belowTold jobs (settingBy order model spare) len))
+unfoldable pub below_entry_told : List ℕ → ℕ → ℕ → ℕ → ℕ → Told
+below_entry_told jobs order model spare len =
+    whole_jobs jobs (cond (strange_spare spare) (row 15 []) (below_told jobs (setting_by order model spare) len))
 
-unfoldable pub belowEntryBytes : List ℕ → ℕ → ℕ → ℕ → List ℕ → List ℕ
-belowEntryBytes jobs order model spare bytes =
-    cond (strangeSpare spare) bytes (belowBytes jobs (settingBy order model spare) bytes)
+unfoldable pub below_entry_bytes : List ℕ → ℕ → ℕ → ℕ → List ℕ → List ℕ
+below_entry_bytes jobs order model spare bytes =
+    cond (strange_spare spare) bytes (below_bytes jobs (setting_by order model spare) bytes)

@@ -4,7 +4,7 @@ use Rattle.std.specs.Prelude.{ℕ, ◌+◌, ◌*◌, ◌≤◌, ◌<◌, ◌≡�
 use Rattle.job.specs.declared.list.JobList.{JobList}
 use Rattle.job.specs.declared.refusal.Checked.{Checked}
 use Rattle.job.specs.declared.refusal.Checked.TheVariants.{Passed}
-use Rattle.job.specs.Told.{row, toldChecked}
+use Rattle.job.specs.Told.{row, told_checked}
 use Rattle.job.specs.Promise.{ListCheckPromise}
 use Rattle.place.specs.declared.setting.Setting.{Setting}
 use Rattle.place.specs.Sound.{Allowed}
@@ -28,7 +28,7 @@ pub record AnswerStands (bytes : List ℕ) (at : ℕ) (a : Below) : Type 0 where
   -- 4,294,967,295 exactly where there is none
   pub never : (word_at bytes (at + 8) ≡ 4294967295) ↔ (a.first ≡ Never)
   pub first : (n : ℕ) → a.first ≡ Slot n → word_at bytes (at + 8) ≡ n
-  pub bytes-all : (i : ℕ) → i < 12 → get_or bytes (at + i) 0 < 256
+  pub bytes_all : (i : ℕ) → i < 12 → get_or bytes (at + i) 0 < 256
 
 -- the answers stand from the buffer's start on, 12 bytes a job, and no other byte changes
 pub record AnswersStand (l : JobList) (j : Judgement) (before after : List ℕ) : Type 0 where
@@ -38,12 +38,12 @@ pub record AnswersStand (l : JobList) (j : Judgement) (before after : List ℕ) 
 
 -- of the bytes of a list, beside what `shortfall` answers of the list: 15, 1 to 6, 8, 12
 pub record BelowTold (l : JobList) (s : Setting) (before : List ℕ) (r : ℕ) (after : List ℕ) : Type 0 where
-  pub row-fifteen : (r ≡ 15) ↔ (Allowed s → ⊥)
+  pub row_fifteen : (r ≡ 15) ↔ (Allowed s → ⊥)
   -- rows 1 to 6, as `JobList::check` gives them
-  pub list-rows : Allowed s → (c : Checked) → ListCheckPromise l c → (c ≡ Passed → ⊥) → r ≡ (toldChecked c).number
+  pub list_rows : Allowed s → (c : Checked) → ListCheckPromise l c → (c ≡ Passed → ⊥) → r ≡ (told_checked c).number
   -- '8: cycle over the limit'; then 12, a buffer of fewer than 12 bytes a job
-  pub row-eight : (j : Judgement) → ShortfallPromise l s j → (r ≡ 8) ↔ (toldChecked j.answer ≡ row 8 [])
-  pub row-twelve :
+  pub row_eight : (j : Judgement) → ShortfallPromise l s j → (r ≡ 8) ↔ (told_checked j.answer ≡ row 8 [])
+  pub row_twelve :
       (j : Judgement) → ShortfallPromise l s j → (r ≡ 12) ↔ ((j.answer ≡ Passed) × (length before < l.count * 12))
   pub passes : (j : Judgement) → ShortfallPromise l s j → (r ≡ 0) ↔ ((j.answer ≡ Passed) × (l.count * 12 ≤ length before))
   pub answers : r ≡ 0 → (j : Judgement) → ShortfallPromise l s j → AnswersStand l j before after
@@ -66,8 +66,8 @@ BelowRowFourteen =
 pub record BelowEntryTold (jobs : List ℕ) (order model spare : ℕ) (before : List ℕ) (r : ℕ) (after : List ℕ) : Type 0 where
   pub off : spare ≡ 0 → BelowPromise jobs (record { order = order; model = model; spare = false }) before r after
   pub on : spare ≡ 1 → BelowPromise jobs (record { order = order; model = model; spare = true }) before r after
-  pub row-fifteen : 1 < spare → Whole jobs → r ≡ 15
-  pub row-fourteen : (Whole jobs → ⊥) → r ≡ 14
+  pub row_fifteen : 1 < spare → Whole jobs → r ≡ 15
+  pub row_fourteen : (Whole jobs → ⊥) → r ≡ 14
   pub keeps : 1 < spare → after ≡ before
 
 abbrev pub EntryBelow : Type 0

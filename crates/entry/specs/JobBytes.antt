@@ -2,14 +2,14 @@
 use Rattle.std.specs.Prelude.{ℕ, ◌+◌, ◌*◌, ◌/◌, List, length, get_or}
 use Rattle.job.specs.declared.record.Job.{Job}
 use Rattle.job.specs.declared.list.JobList.{JobList}
-use Rattle.job.specs.Filled.{listBy}
+use Rattle.job.specs.Filled.{list_by}
 
 -- '16 bits, low byte first'
 abbrev pub pair_at : List ℕ → ℕ → ℕ
 pair_at bytes i = get_or bytes i 0 + 256 * get_or bytes (i + 1) 0
 
-abbrev pub jobFrom : List ℕ → ℕ → Job
-jobFrom bytes i =
+abbrev pub job_from : List ℕ → ℕ → Job
+job_from bytes i =
     record {
       c = pair_at bytes (i * 6);
       t = pair_at bytes (i * 6 + 2);
@@ -19,4 +19,4 @@ jobFrom bytes i =
 
 -- of more than 16 jobs the first 16 are read
 abbrev pub list_from : List ℕ → JobList
-list_from bytes = listBy (jobFrom bytes) (length bytes / 6)
+list_from bytes = list_by (job_from bytes) (length bytes / 6)

@@ -2,36 +2,36 @@
 use Rattle.std.specs.Prelude.{ℕ, ◌+◌, ◌*◌, ◌%◌, ◌≤◌, ◌<◌, ◌≡◌, ◌↔◌, false, List, length, get_or, take, drop}
 use Rattle.job.specs.declared.record.Job.{Job}
 use Rattle.job.specs.declared.list.JobList.{JobList}
-use Rattle.job.specs.Limit.{countMost}
+use Rattle.job.specs.Limit.{count_most}
 use Rattle.job.specs.declared.refusal.Checked.{Checked}
 use Rattle.job.specs.declared.refusal.Checked.TheVariants.{Passed}
-use Rattle.job.specs.Told.{toldChecked}
-use Rattle.job.specs.Check.{noJob}
+use Rattle.job.specs.Told.{told_checked}
+use Rattle.job.specs.Check.{no_job}
 use Rattle.job.specs.Sound.{SoundList}
 use Rattle.job.specs.Promise.{ListCheckPromise}
 use Rattle.admission.specs.declared.answer.Admission.{Admission}
-use Rattle.admission.specs.Answer.{toldAdmission}
+use Rattle.admission.specs.Answer.{told_admission}
 use Rattle.admission.specs.Promise.{VerdictPromise}
 use Rattle.place.specs.declared.setting.Setting.{Setting}
 use Rattle.place.specs.Sound.{Allowed}
 use Rattle.run.specs.declared.state.State.{State}
 use Rattle.run.specs.declared.answer.Slot.{Slot}
-use Rattle.run.specs.State.{clockMost}
+use Rattle.run.specs.State.{clock_most}
 use Rattle.run.specs.Calls.{Run, bytes_of}
 use Rattle.timetable.specs.Meaning.{Stays}
 use Rattle.entry.specs.Promise.{AdmitEntryPromise, FillPromise, FillEntryPromise}
 
 -- 'C and T (16 bits, low byte first), m, k': job j stands in the six bytes from `at` on
 pub record JobStands (bytes : List ℕ) (at : ℕ) (j : Job) : Type 0 where
-  pub c-is : j.c ≡ get_or bytes at 0 + 256 * get_or bytes (at + 1) 0
-  pub t-is : j.t ≡ get_or bytes (at + 2) 0 + 256 * get_or bytes (at + 3) 0
-  pub m-is : j.m ≡ get_or bytes (at + 4) 0
-  pub k-is : j.k ≡ get_or bytes (at + 5) 0
+  pub c_is : j.c ≡ get_or bytes at 0 + 256 * get_or bytes (at + 1) 0
+  pub t_is : j.t ≡ get_or bytes (at + 2) 0 + 256 * get_or bytes (at + 3) 0
+  pub m_is : j.m ≡ get_or bytes (at + 4) 0
+  pub k_is : j.k ≡ get_or bytes (at + 5) 0
 
 -- 'job bytes, 6 a job': the bytes are those of the list, as far as its 16 records reach
 pub record BytesOfList (bytes : List ℕ) (l : JobList) : Type 0 where
   pub whole : length bytes ≡ l.count * 6
-  pub each : (i : ℕ) → i < l.count → i < countMost → JobStands bytes (i * 6) (get_or l.jobs i noJob)
+  pub each : (i : ℕ) → i < l.count → i < count_most → JobStands bytes (i * 6) (get_or l.jobs i no_job)
 
 -- bytes of whole jobs are those of some list
 abbrev pub Whole : List ℕ → Type 0
@@ -42,8 +42,8 @@ WholeExactly = (bytes : List ℕ) → Whole bytes ↔ ((l : JobList) × BytesOfL
 
 -- `filbertoss_admit`: '14: job bytes not a multiple of 6'; otherwise it answers as `verdict` does on the list
 pub record AdmitEntryTold (jobs : List ℕ) (model r : ℕ) : Type 0 where
-  pub row-fourteen : (r ≡ 14) ↔ (Whole jobs → ⊥)
-  pub judges : (l : JobList) → BytesOfList jobs l → (a : Admission) → VerdictPromise l model a → r ≡ (toldAdmission a).number
+  pub row_fourteen : (r ≡ 14) ↔ (Whole jobs → ⊥)
+  pub judges : (l : JobList) → BytesOfList jobs l → (a : Admission) → VerdictPromise l model a → r ≡ (told_admission a).number
 
 abbrev pub AdmitEntryAnswers : Type 0
 AdmitEntryAnswers = (jobs : List ℕ) (model r : ℕ) → AdmitEntryPromise jobs model r → AdmitEntryTold jobs model r
@@ -64,13 +64,13 @@ pub record FillsRun (l : JobList) (s : Setting) (before : List ℕ) (offset n : 
 
 -- a fill of the bytes of a list: 'Tests 14, 15, then the rows above; for the fill 12, then 11, come after 6.'
 pub record FillTold (l : JobList) (s : Setting) (before : List ℕ) (offset n r : ℕ) (after : List ℕ) : Type 0 where
-  pub row-fifteen : (r ≡ 15) ↔ (Allowed s → ⊥)
+  pub row_fifteen : (r ≡ 15) ↔ (Allowed s → ⊥)
   -- rows 1 to 6, as `JobList::check` gives them
-  pub list-rows : Allowed s → (c : Checked) → ListCheckPromise l c → (c ≡ Passed → ⊥) → r ≡ (toldChecked c).number
+  pub list_rows : Allowed s → (c : Checked) → ListCheckPromise l c → (c ≡ Passed → ⊥) → r ≡ (told_checked c).number
   -- '12 (offset + n above the length), 11 (clock + n above its limit)', from slot 0
-  pub row-twelve : (r ≡ 12) ↔ (Starts l s × (length before < offset + n))
-  pub row-eleven : (r ≡ 11) ↔ (Starts l s × (offset + n ≤ length before) × (clockMost < n))
-  pub passes : (r ≡ 0) ↔ (Starts l s × (offset + n ≤ length before) × (n ≤ clockMost))
+  pub row_twelve : (r ≡ 12) ↔ (Starts l s × (length before < offset + n))
+  pub row_eleven : (r ≡ 11) ↔ (Starts l s × (offset + n ≤ length before) × (clock_most < n))
+  pub passes : (r ≡ 0) ↔ (Starts l s × (offset + n ≤ length before) × (n ≤ clock_most))
   pub runs : r ≡ 0 → FillsRun l s before offset n after
   -- 'A refused .. timetable writes nothing'
   pub keeps : (r ≡ 0 → ⊥) → after ≡ before

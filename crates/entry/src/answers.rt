@@ -1,8 +1,8 @@
 // Which jobs of the job bytes fall below their stated part, written into the caller's buffer.
 ghost use Rattle.std.specs.Prelude.{◌≡◌, ◌+◌, ◌*◌, ◌≤◌, length};
-ghost use Rattle.job.specs.Limit.{countMost};
+ghost use Rattle.job.specs.Limit.{count_most};
 ghost use Rattle.text.specs.Written.{written};
-ghost use Rattle.entry.specs.Below.{firstNumber, answerBytes, answersUpto};
+ghost use Rattle.entry.specs.Below.{first_number, answer_bytes, answers_upto};
 ghost use Rattle.entry.specs.Promise.{BelowPromise, BelowEntryPromise};
 
 use crate::jobs::list_from;
@@ -13,7 +13,7 @@ use text::inner::put_word;
 
 // Never is told as the clock's limit, a slot that is not run.
 fn first_number(first: First) -> u32
-    ensures { result ≡ firstNumber first }
+    ensures { result ≡ first_number first }
 {
     match first {
         First::Never => 4294967295,
@@ -24,8 +24,8 @@ fn first_number(first: First) -> u32
 // One job's 12 bytes, from the place `at` on; answers the place after them.
 fn put_below(buf: &mut [u8], at: usize, below: Below) -> usize
     requires { at + 12 ≤ length buf.old }
-    ensures value { result ≡ at + length (answerBytes below) }
-    ensures buf_after { buf.new ≡ written buf.old at (answerBytes below) }
+    ensures value { result ≡ at + length (answer_bytes below) }
+    ensures buf_after { buf.new ≡ written buf.old at (answer_bytes below) }
 {
     let first = below.first;
     let short_at = put_word(buf, at, below.windows);
@@ -35,9 +35,9 @@ fn put_below(buf: &mut [u8], at: usize, below: Below) -> usize
 
 // The bytes of the first `count` jobs, from the buffer's start on.
 fn put_answers(buf: &mut [u8], jobs: [Below; JobList::COUNT_MOST], count: usize)
-    requires count_le_count_most { count ≤ countMost }
+    requires count_le_count_most { count ≤ count_most }
     requires count_in_bounds { count * 12 ≤ length buf.old }
-    ensures { buf.new ≡ written buf.old 0 (answersUpto jobs count) }
+    ensures { buf.new ≡ written buf.old 0 (answers_upto jobs count) }
 {
     let mut end: usize = 0;
     let mut job: usize = 0;

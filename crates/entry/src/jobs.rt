@@ -1,6 +1,6 @@
 // Job bytes: 6 a job, C and T 16 bits each, low byte first, then m and k.
 ghost use Rattle.std.specs.Prelude.{◌≡◌, ◌*◌, ◌+◌, ◌≤◌, length};
-ghost use Rattle.entry.specs.JobBytes.{pair_at, jobFrom, list_from};
+ghost use Rattle.entry.specs.JobBytes.{pair_at, job_from, list_from};
 
 use job::{Job, JobList};
 
@@ -20,7 +20,7 @@ fn pair_at(bytes: &[u8], at: usize) -> u32
 
 fn job_from(bytes: &[u8], number: usize) -> Job
     requires { number * 6 + 6 ≤ length bytes.now }
-    ensures { result ≡ jobFrom bytes.now number }
+    ensures { result ≡ job_from bytes.now number }
 {
     let at = number * 6;
     Job {

@@ -11,57 +11,57 @@ use borrow.Author.Tests.{ne_eqb, le-ltb}
 use Rattle.job.specs.declared.refusal.Refusal.{Refusal}
 use Rattle.job.specs.declared.record.Job.{Job}
 use Rattle.job.specs.declared.list.JobList.{JobList}
-use Rattle.job.specs.Limit.{countMost}
+use Rattle.job.specs.Limit.{count_most}
 use Rattle.job.specs.Told.{Told, row, passed, told}
-use Rattle.job.specs.Check.{jobAt, jobTold, otherwise, jobsTold, listTold}
-use Rattle.job.proofs.ToldLaws.{told-refuses}
+use Rattle.job.specs.Check.{job_at, job_told, otherwise, jobs_told, list_told}
+use Rattle.job.proofs.ToldLaws.{told_refuses}
 
-pub otherwise-passed : {a : Told} (b : Told) → a ≡ passed → otherwise a b ≡ b
+pub otherwise_passed : {a : Told} (b : Told) → a ≡ passed → otherwise a b ≡ b
 unfolding otherwise
-otherwise-passed b e = ap (λ (x : Told). cond (eqb x.number 0) b x) e
+otherwise_passed b e = ap (λ (x : Told). cond (eqb x.number 0) b x) e
 
-pub otherwise-refused : (a b : Told) → eqb a.number 0 ≡ false → otherwise a b ≡ a
+pub otherwise_refused : (a b : Told) → eqb a.number 0 ≡ false → otherwise a b ≡ a
 unfolding otherwise
-otherwise-refused a b e = rw e
+otherwise_refused a b e = rw e
 
-pub no-job-told : (jobs : List Job) → jobsTold jobs 0 ≡ passed
-unfolding jobsTold
-no-job-told jobs = refl
+pub no_job_told : (jobs : List Job) → jobs_told jobs 0 ≡ passed
+unfolding jobs_told
+no_job_told jobs = refl
 
 -- one job more, after jobs that pass
-pub one_more : (jobs : List Job) (i : ℕ) → jobsTold jobs i ≡ passed → jobsTold jobs (i + 1) ≡ jobTold i (jobAt jobs i)
-unfolding jobsTold
-one_more jobs i e = ap (jobsTold jobs) (add-one i) ∙ otherwise-passed (jobTold i (jobAt jobs i)) e
+pub one_more : (jobs : List Job) (i : ℕ) → jobs_told jobs i ≡ passed → jobs_told jobs (i + 1) ≡ job_told i (job_at jobs i)
+unfolding jobs_told
+one_more jobs i e = ap (jobs_told jobs) (add-one i) ∙ otherwise_passed (job_told i (job_at jobs i)) e
 
 -- a fault once found is the answer, whatever follows
 pub stays :
-    (jobs : List Job) (i n : ℕ) → i ≤ n → eqb (jobsTold jobs i).number 0 ≡ false → jobsTold jobs n ≡ jobsTold jobs i
-unfolding jobsTold
+    (jobs : List Job) (i n : ℕ) → i ≤ n → eqb (jobs_told jobs i).number 0 ≡ false → jobs_told jobs n ≡ jobs_told jobs i
+unfolding jobs_told
 stays jobs i n h refused =
-    le_ind (λ (x : ℕ). jobsTold jobs x ≡ jobsTold jobs i) refl
+    le_ind (λ (x : ℕ). jobs_told jobs x ≡ jobs_told jobs i) refl
     (λ x l same.
-    otherwise-refused (jobsTold jobs x) (jobTold x (jobAt jobs x)) (ap (λ (t : Told). eqb t.number 0) same ∙ refused)
+    otherwise_refused (jobs_told jobs x) (job_told x (job_at jobs x)) (ap (λ (t : Told). eqb t.number 0) same ∙ refused)
     ∙ same)
     n h
 
 -- the check by its two tests of the count
 pub by_count :
-    (l : JobList) (none many : Bool) → eqb l.count 0 ≡ none → ltb countMost l.count ≡ many
-    → listTold l ≡ cond none (row 1 []) (cond many (row 2 []) (jobsTold l.jobs l.count))
-unfolding listTold
+    (l : JobList) (none many : Bool) → eqb l.count 0 ≡ none → ltb count_most l.count ≡ many
+    → list_told l ≡ cond none (row 1 []) (cond many (row 2 []) (jobs_told l.jobs l.count))
+unfolding list_told
 by_count l none many e f = simp (e, f)
 
-module _ (l : JobList) (some : 0 < l.count) (few : l.count ≤ countMost) where
+module _ (l : JobList) (some : 0 < l.count) (few : l.count ≤ count_most) where
   -- a list of an allowed count is judged by its jobs
-  pub by-jobs : listTold l ≡ jobsTold l.jobs l.count
-  by-jobs = by_count l false false (ne_eqb l.count 0 (omega arith)) (le-ltb countMost l.count few)
+  pub by_jobs : list_told l ≡ jobs_told l.jobs l.count
+  by_jobs = by_count l false false (ne_eqb l.count 0 (omega arith)) (le-ltb count_most l.count few)
 
   -- the first job at fault is the answer
   pub found :
-      (at : ℕ) (r : Refusal) → at < l.count → jobsTold l.jobs at ≡ passed → jobTold at (jobAt l.jobs at) ≡ told r
-      → listTold l ≡ told r
+      (at : ℕ) (r : Refusal) → at < l.count → jobs_told l.jobs at ≡ passed → job_told at (job_at l.jobs at) ≡ told r
+      → list_told l ≡ told r
   found at r listed passes fault =
-      let here : jobsTold l.jobs (at + 1) ≡ told r = one_more l.jobs at passes ∙ fault in
-      by-jobs
-      ∙ stays l.jobs (at + 1) l.count (omega arith) (ap (λ (t : Told). eqb t.number 0) here ∙ told-refuses r)
+      let here : jobs_told l.jobs (at + 1) ≡ told r = one_more l.jobs at passes ∙ fault in
+      by_jobs
+      ∙ stays l.jobs (at + 1) l.count (omega arith) (ap (λ (t : Told). eqb t.number 0) here ∙ told_refuses r)
       ∙ here

@@ -40,20 +40,20 @@ four a b c d e =
     let first = three a b c last.0 in
     (first.0, first.1, first.2, last.1)
 
-pub allowed-within : (x most : ℕ) → allowed x most ≡ true → Within x most
-allowed-within x most e =
+pub allowed_within : (x most : ℕ) → allowed x most ≡ true → Within x most
+allowed_within x most e =
     let tests = both (leb 1 x) (leb x most) e in
     record { low = leb-true 1 x tests.0; high = leb-true x most tests.1 }
 
-pub within-allowed : (x most : ℕ) → Within x most → allowed x most ≡ true
-within-allowed x most w = simp (le-leb 1 x w.low, le-leb x most w.high)
+pub within_allowed : (x most : ℕ) → Within x most → allowed x most ≡ true
+within_allowed x most w = simp (le-leb 1 x w.low, le-leb x most w.high)
 
-pub not-allowed : (x most : ℕ) → allowed x most ≡ false → ¬ Within x most
-not-allowed x most e w = clash e (within-allowed x most w)
+pub not_allowed : (x most : ℕ) → allowed x most ≡ false → ¬ Within x most
+not_allowed x most e w = clash e (within_allowed x most w)
 
 pub not_within : (x most : ℕ) → ¬ Within x most → allowed x most ≡ false
 not_within x most n = go (allowed x most) refl
   where
     go : (b : Bool) → allowed x most ≡ b → allowed x most ≡ false
-    go true e = absurd (n (allowed-within x most e))
+    go true e = absurd (n (allowed_within x most e))
     go false e = e

@@ -11,7 +11,7 @@ use Rattle.job.specs.declared.refusal.Refusal.{Refusal}
 use Rattle.job.specs.declared.refusal.Refusal.TheVariants.{NoJobs, TooManyJobs, Period, Service, Window, Share, OriginalModel, CycleTooLong, Overload, StateOutOfRange, ClockAtLimit, BufferTooShort, SheetForm, JobBytes, OrderOrModel, SlotCount, SheetTooLong}
 use Rattle.job.specs.declared.refusal.Checked.{Checked}
 use Rattle.job.specs.declared.refusal.Checked.TheVariants.{Passed, Refused}
-use Rattle.job.specs.Told.{Told, row, told, toldChecked}
+use Rattle.job.specs.Told.{Told, row, told, told_checked}
 use Rattle.job.specs.Meaning.{RefusalOneToOne, CheckedOneToOne}
 
 -- two answers of different numbers, or of different numbers of values, are not equal
@@ -21,12 +21,12 @@ apart {n} {m} e f = eqb-false n m f (ap (λ (t : Told). t.number) e)
 pub valued : {n m x : ℕ} → row n (x ∷ []) ≡ row m [] → ⊥
 valued e = let lengths : ◌≡◌ {A = ℕ} 1 0 = ap (λ (t : Told). length t.values) e in omega arith
 
--- whatever has an inverse is one-to-one
-pub one-to-one {ℓ κ} : {A : Type ℓ} {B : Type κ} (f : A → B) (g : B → A) → ((a : A) → g (f a) ≡ a) → (a b : A) → f a ≡ f b → a ≡ b
-one-to-one f g inverse a b e = sym (inverse a) ∙ ap g e ∙ inverse b
+-- whatever has an inverse is one_to_one
+pub one_to_one {ℓ κ} : {A : Type ℓ} {B : Type κ} (f : A → B) (g : B → A) → ((a : A) → g (f a) ≡ a) → (a b : A) → f a ≡ f b → a ≡ b
+one_to_one f g inverse a b e = sym (inverse a) ∙ ap g e ∙ inverse b
 
-pub rowBack : Told → Refusal
-rowBack t =
+pub row_back : Told → Refusal
+row_back t =
     let n = t.number in
     let x = get_or t.values 0 0 in
     cond (eqb n 1) NoJobs
@@ -47,42 +47,42 @@ rowBack t =
     (cond (eqb n 16) SlotCount SheetTooLong)))))))))))))))
 
 -- by the rows: the inverse gives the refusal back, and its number is not 0
-row-by-row : (r : Refusal) → (rowBack (told r) ≡ r) × (eqb (told r).number 0 ≡ false)
-unfolding rowBack
-row-by-row NoJobs = (refl, refl)
-row-by-row TooManyJobs = (refl, refl)
-row-by-row (Period j) = (refl, refl)
-row-by-row (Service j) = (refl, refl)
-row-by-row (Window j) = (refl, refl)
-row-by-row (Share j) = (refl, refl)
-row-by-row OriginalModel = (refl, refl)
-row-by-row CycleTooLong = (refl, refl)
-row-by-row (Overload h l) = (refl, refl)
-row-by-row StateOutOfRange = (refl, refl)
-row-by-row ClockAtLimit = (refl, refl)
-row-by-row BufferTooShort = (refl, refl)
-row-by-row (SheetForm p) = (refl, refl)
-row-by-row JobBytes = (refl, refl)
-row-by-row OrderOrModel = (refl, refl)
-row-by-row SlotCount = (refl, refl)
-row-by-row SheetTooLong = (refl, refl)
+row_by_row : (r : Refusal) → (row_back (told r) ≡ r) × (eqb (told r).number 0 ≡ false)
+unfolding row_back
+row_by_row NoJobs = (refl, refl)
+row_by_row TooManyJobs = (refl, refl)
+row_by_row (Period j) = (refl, refl)
+row_by_row (Service j) = (refl, refl)
+row_by_row (Window j) = (refl, refl)
+row_by_row (Share j) = (refl, refl)
+row_by_row OriginalModel = (refl, refl)
+row_by_row CycleTooLong = (refl, refl)
+row_by_row (Overload h l) = (refl, refl)
+row_by_row StateOutOfRange = (refl, refl)
+row_by_row ClockAtLimit = (refl, refl)
+row_by_row BufferTooShort = (refl, refl)
+row_by_row (SheetForm p) = (refl, refl)
+row_by_row JobBytes = (refl, refl)
+row_by_row OrderOrModel = (refl, refl)
+row_by_row SlotCount = (refl, refl)
+row_by_row SheetTooLong = (refl, refl)
 
-pub row_back : (r : Refusal) → rowBack (told r) ≡ r
-row_back r = (row-by-row r).0
+pub row_back_lem : (r : Refusal) → row_back (told r) ≡ r
+row_back_lem r = (row_by_row r).0
 
-pub told-refuses : (r : Refusal) → eqb (told r).number 0 ≡ false
-told-refuses r = (row-by-row r).1
+pub told_refuses : (r : Refusal) → eqb (told r).number 0 ≡ false
+told_refuses r = (row_by_row r).1
 
-pub refusal-one-to-one : RefusalOneToOne
-refusal-one-to-one = one-to-one told rowBack row_back
+pub refusal_one_to_one : RefusalOneToOne
+refusal_one_to_one = one_to_one told row_back row_back_lem
 
-checkedBack : Told → Checked
-checkedBack t = cond (eqb t.number 0) Passed (Refused (rowBack t))
+checked_back : Told → Checked
+checked_back t = cond (eqb t.number 0) Passed (Refused (row_back t))
 
-checked-back : (r : Checked) → checkedBack (toldChecked r) ≡ r
-unfolding checkedBack
-checked-back Passed = refl
-checked-back (Refused r) = rw (told-refuses r) (ap Refused (row_back r))
+checked_back_lem : (r : Checked) → checked_back (told_checked r) ≡ r
+unfolding checked_back
+checked_back_lem Passed = refl
+checked_back_lem (Refused r) = rw (told_refuses r) (ap Refused (row_back_lem r))
 
-pub checked-one-to-one : CheckedOneToOne
-checked-one-to-one = one-to-one toldChecked checkedBack checked-back
+pub checked_one_to_one : CheckedOneToOne
+checked_one_to_one = one_to_one told_checked checked_back checked_back_lem

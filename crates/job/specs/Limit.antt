@@ -2,20 +2,20 @@
 use Rattle.std.specs.Prelude.{ℕ}
 
 -- 'jobs: 1 to 16'
-abbrev pub countMost : ℕ
-countMost = 16
+abbrev pub count_most : ℕ
+count_most = 16
 
 -- 'T: 1 to 4,096'
-abbrev pub tMost : ℕ
-tMost = 4096
+abbrev pub t_most : ℕ
+t_most = 4096
 
 -- 'k: 1 to 255'
-abbrev pub kMost : ℕ
-kMost = 255
+abbrev pub k_most : ℕ
+k_most = 255
 
 -- 'common cycle, admission only: at most 16,777,216'
-abbrev pub cycleMost : ℕ
-cycleMost = 16777216
+abbrev pub cycle_most : ℕ
+cycle_most = 16777216
 
 -- 'model 0 is relaxed, 1 is original'
 abbrev pub relaxed : ℕ

@@ -4,8 +4,8 @@ use Rattle.job.specs.declared.record.Job.{Job}
 use Rattle.job.specs.declared.list.JobList.{JobList}
 use Rattle.job.specs.declared.refusal.Refusal.{Refusal}
 use Rattle.job.specs.declared.refusal.Checked.{Checked}
-use Rattle.job.specs.Limit.{countMost}
-use Rattle.job.specs.Told.{Told, told, toldChecked, passed, row}
+use Rattle.job.specs.Limit.{count_most}
+use Rattle.job.specs.Told.{Told, told, told_checked, passed, row}
 use Rattle.job.specs.Sound.{SoundJob, SoundList, FaultOf, LowestFault}
 use Rattle.job.specs.Promise.{NonePromise, JobCheckPromise, EmptyPromise, ListCheckPromise, CheckedNumberPromise, RefusalNumberPromise}
 
@@ -14,14 +14,14 @@ abbrev pub RefusalOneToOne : Type 0
 RefusalOneToOne = (a b : Refusal) → told a ≡ told b → a ≡ b
 
 abbrev pub CheckedOneToOne : Type 0
-CheckedOneToOne = (a b : Checked) → toldChecked a ≡ toldChecked b → a ≡ b
+CheckedOneToOne = (a b : Checked) → told_checked a ≡ told_checked b → a ≡ b
 
 -- `Refusal::number`, `Checked::number`: the row's number, 0 for none
 abbrev pub RefusalNumbered : Type 0
 RefusalNumbered = (refusal : Refusal) (r : ℕ) → RefusalNumberPromise refusal r → r ≡ (told refusal).number
 
 abbrev pub CheckedNumbered : Type 0
-CheckedNumbered = (checked : Checked) (r : ℕ) → CheckedNumberPromise checked r → r ≡ (toldChecked checked).number
+CheckedNumbered = (checked : Checked) (r : ℕ) → CheckedNumberPromise checked r → r ≡ (told_checked checked).number
 
 -- `Job::none`: where no job is, all zeros stand
 pub record Zeros (j : Job) : Type 0 where
@@ -36,8 +36,8 @@ NoneZeros = (r : Job) → NonePromise r → Zeros r
 -- `JobList::empty`: a list of n jobs of which none is put yet, 16 records of zeros
 pub record NonePut (n : ℕ) (l : JobList) : Type 0 where
   pub count : l.count ≡ n
-  pub long : length l.jobs ≡ countMost
-  pub zeros : (i : ℕ) (past : Job) → i < countMost → Zeros (get_or l.jobs i past)
+  pub long : length l.jobs ≡ count_most
+  pub zeros : (i : ℕ) (past : Job) → i < count_most → Zeros (get_or l.jobs i past)
 
 abbrev pub EmptyNonePut : Type 0
 EmptyNonePut = (n : ℕ) (r : JobList) → EmptyPromise n r → NonePut n r
@@ -47,10 +47,10 @@ pub record JobRows (at : ℕ) (j : Job) (t : Told) : Type 0 where
   -- it passes exactly if its four numbers are within their rows of the table ..
   pub passes : (t ≡ passed) ↔ SoundJob j
   -- .. and otherwise the first number at fault, 'T before C before k before m', is told, with the job's number
-  pub job-row : (n : ℕ) → (t ≡ row n (at ∷ [])) ↔ FaultOf j n
+  pub job_row : (n : ℕ) → (t ≡ row n (at ∷ [])) ↔ FaultOf j n
 
 abbrev pub JobChecks : Type 0
-JobChecks = (at : ℕ) (j : Job) (r : Checked) → JobCheckPromise at j r → JobRows at j (toldChecked r)
+JobChecks = (at : ℕ) (j : Job) (r : Checked) → JobCheckPromise at j r → JobRows at j (told_checked r)
 
 -- `JobList::check`: what is told of list l
 pub record ListRows (l : JobList) (t : Told) : Type 0 where
@@ -59,9 +59,9 @@ pub record ListRows (l : JobList) (t : Told) : Type 0 where
   -- '1: no jobs'
   pub row_one : (t ≡ row 1 []) ↔ (l.count ≡ 0)
   -- '2: more than 16 jobs'
-  pub row-two : (t ≡ row 2 []) ↔ (countMost < l.count)
+  pub row_two : (t ≡ row 2 []) ↔ (count_most < l.count)
   -- '3, 4, 5, 6: T, C, k, m of a job not allowed', naming 'the lowest job at fault, T before C before k before m'
-  pub job-rows : (n i : ℕ) → (t ≡ row n (i ∷ [])) ↔ LowestFault l n i
+  pub job_rows : (n i : ℕ) → (t ≡ row n (i ∷ [])) ↔ LowestFault l n i
 
 abbrev pub ListChecks : Type 0
-ListChecks = (l : JobList) (r : Checked) → ListCheckPromise l r → ListRows l (toldChecked r)
+ListChecks = (l : JobList) (r : Checked) → ListCheckPromise l r → ListRows l (told_checked r)

@@ -3,8 +3,8 @@
 use Rattle.std.specs.Prelude.{ℕ, ◌≤◌, ◌<◌, List, get_or}
 use Rattle.job.specs.declared.record.Job.{Job}
 use Rattle.job.specs.declared.list.JobList.{JobList}
-use Rattle.job.specs.Limit.{countMost, tMost, kMost}
-use Rattle.job.specs.Check.{noJob}
+use Rattle.job.specs.Limit.{count_most, t_most, k_most}
+use Rattle.job.specs.Check.{no_job}
 
 -- 'x: 1 to most'
 pub record Within (x most : ℕ) : Type 0 where
@@ -12,29 +12,29 @@ pub record Within (x most : ℕ) : Type 0 where
   pub high : x ≤ most
 
 pub record SoundJob (j : Job) : Type 0 where
-  pub t : Within j.t tMost
+  pub t : Within j.t t_most
   pub c : Within j.c j.t
-  pub k : Within j.k kMost
+  pub k : Within j.k k_most
   pub m : Within j.m j.k
 
 -- every job before number n is sound
 abbrev pub SoundBelow : List Job → ℕ → Type 0
-SoundBelow jobs n = (i : ℕ) → i < n → SoundJob (get_or jobs i noJob)
+SoundBelow jobs n = (i : ℕ) → i < n → SoundJob (get_or jobs i no_job)
 
 pub record SoundList (l : JobList) : Type 0 where
-  pub count : Within l.count countMost
+  pub count : Within l.count count_most
   pub jobs : SoundBelow l.jobs l.count
 
 -- 'T, C, k, m of a job not allowed', each where what is tested before it is allowed: the row's number
 pub data FaultOf (j : Job) : ℕ → Type 0 where
-  t-fault : ¬ Within j.t tMost → FaultOf j 3
-  c-fault : Within j.t tMost → ¬ Within j.c j.t → FaultOf j 4
-  k-fault : Within j.t tMost → Within j.c j.t → ¬ Within j.k kMost → FaultOf j 5
-  m-fault : Within j.t tMost → Within j.c j.t → Within j.k kMost → ¬ Within j.m j.k → FaultOf j 6
+  t_fault : ¬ Within j.t t_most → FaultOf j 3
+  c_fault : Within j.t t_most → ¬ Within j.c j.t → FaultOf j 4
+  k_fault : Within j.t t_most → Within j.c j.t → ¬ Within j.k k_most → FaultOf j 5
+  m_fault : Within j.t t_most → Within j.c j.t → Within j.k k_most → ¬ Within j.m j.k → FaultOf j 6
 
 -- 'Rows 3 to 6 name the lowest job at fault'
 pub record LowestFault (l : JobList) (n i : ℕ) : Type 0 where
-  pub count : Within l.count countMost
+  pub count : Within l.count count_most
   pub listed : i < l.count
   pub below : SoundBelow l.jobs i
-  pub fault : FaultOf (get_or l.jobs i noJob) n
+  pub fault : FaultOf (get_or l.jobs i no_job) n

@@ -36,6 +36,6 @@ told SheetTooLong = row 17 []
 abbrev pub passed : Told
 passed = row 0 []
 
-abbrev pub toldChecked : Checked → Told
-toldChecked Passed = passed
-toldChecked (Refused r) = told r
+abbrev pub told_checked : Checked → Told
+told_checked Passed = passed
+told_checked (Refused r) = told r

@@ -2,5 +2,5 @@
 use Rattle.std.specs.Prelude.{ℕ, ◌*◌}
 use Rattle.job.specs.declared.record.Job.{Job}
 
-abbrev pub windowOf : Job → ℕ
-windowOf j = j.k * j.t
+abbrev pub window_of : Job → ℕ
+window_of j = j.k * j.t

@@ -9,24 +9,24 @@ use lib.Dec.{eqb, ltb}
 use lib.ListN.{length, take, drop}
 use lib.Seq.{take-add}
 use borrow.Author.Tests.{ltb-true, ltb-false, eqb-true, eqb-false, lt-ltb, le-ltb}
-use Rattle.rules.specs.Rules.{countIn, slots_of}
-use Rattle.rules.proofs.BytesLaws.{countIn-append, countIn-high}
-use Rattle.rules.specs.Meaning.{sumUpto}
+use Rattle.rules.specs.Rules.{count_in, slots_of}
+use Rattle.rules.proofs.BytesLaws.{count_in_append, count_in_high}
+use Rattle.rules.specs.Meaning.{sum_upto}
 
 -- how many bytes name a job below n
-abbrev givenIn : ℕ → List ℕ → ℕ
-givenIn n bytes = countIn (λ b. ltb b n) bytes
+abbrev given_in : ℕ → List ℕ → ℕ
+given_in n bytes = count_in (λ b. ltb b n) bytes
 
 -- the bytes below n + 1 are those below n, and n itself
-given-next : (n : ℕ) (bytes : List ℕ) → givenIn (suc n) bytes ≡ givenIn n bytes + slots_of n bytes
-unfolding countIn
-given-next n [] = refl
-given-next n (b ∷ bytes) = go (ltb b n) (eqb b n) refl refl (given-next n bytes)
+given_next : (n : ℕ) (bytes : List ℕ) → given_in (suc n) bytes ≡ given_in n bytes + slots_of n bytes
+unfolding count_in
+given_next n [] = refl
+given_next n (b ∷ bytes) = go (ltb b n) (eqb b n) refl refl (given_next n bytes)
   where
     go :
-        (below here : Bool) → ltb b n ≡ below → eqb b n ≡ here → givenIn (suc n) bytes ≡ givenIn n bytes + slots_of n bytes
-        → cond (ltb b (suc n)) (givenIn (suc n) bytes + 1) (givenIn (suc n) bytes)
-        ≡ cond below (givenIn n bytes + 1) (givenIn n bytes) + cond here (slots_of n bytes + 1) (slots_of n bytes)
+        (below here : Bool) → ltb b n ≡ below → eqb b n ≡ here → given_in (suc n) bytes ≡ given_in n bytes + slots_of n bytes
+        → cond (ltb b (suc n)) (given_in (suc n) bytes + 1) (given_in (suc n) bytes)
+        ≡ cond below (given_in n bytes + 1) (given_in n bytes) + cond here (slots_of n bytes + 1) (slots_of n bytes)
     go true true e f rest = absurd (omega (arith, ltb-true b n e, eqb-true b n f))
     go true false e f rest = rw (lt-ltb b (suc n) (omega (arith, ltb-true b n e))) (omega arith)
     go false true e f rest = rw (lt-ltb b (suc n) (omega (arith, eqb-true b n f))) (omega arith)
@@ -34,25 +34,25 @@ given-next n (b ∷ bytes) = go (ltb b n) (eqb b n) refl refl (given-next n byte
         rw (le-ltb b (suc n) (omega (arith, ltb-false b n e, eqb-false b n f))) rest
 
 -- slots of different jobs are different slots
-slots-given : (n : ℕ) (bytes : List ℕ) → sumUpto (λ i. slots_of i bytes) n ≤ givenIn n bytes
-unfolding sumUpto
-slots-given zero bytes = omega arith
-slots-given (suc n) bytes = omega (arith, slots-given n bytes, given-next n bytes)
+slots_given : (n : ℕ) (bytes : List ℕ) → sum_upto (λ i. slots_of i bytes) n ≤ given_in n bytes
+unfolding sum_upto
+slots_given zero bytes = omega arith
+slots_given (suc n) bytes = omega (arith, slots_given n bytes, given_next n bytes)
 
-pub slots-high : (n : ℕ) (bytes : List ℕ) → sumUpto (λ i. slots_of i bytes) n ≤ length bytes
-slots-high n bytes = omega (arith, slots-given n bytes, countIn-high (λ b. ltb b n) bytes)
+pub slots_high : (n : ℕ) (bytes : List ℕ) → sum_upto (λ i. slots_of i bytes) n ≤ length bytes
+slots_high n bytes = omega (arith, slots_given n bytes, count_in_high (λ b. ltb b n) bytes)
 
 -- n windows that each have `service` slots of job i have n times as many
-pub windows-served :
+pub windows_served :
     (i window service : ℕ) (bytes : List ℕ)
     → ((w : ℕ) → w * window + window ≤ length bytes → service ≤ slots_of i (take window (drop (w * window) bytes)))
     → (n : ℕ) → n * window ≤ length bytes → n * service ≤ slots_of i (take (n * window) bytes)
-windows-served i window service bytes served zero fits = omega arith
-windows-served i window service bytes served (suc n) fits =
+windows_served i window service bytes served zero fits = omega arith
+windows_served i window service bytes served (suc n) fits =
     let fits' : n * window + window ≤ length bytes = rw suc-mul at fits in
     rw (
       suc-mul n window,
       take-add (n * window) window bytes,
-      countIn-append (λ b. eqb b i) (take (n * window) bytes) (take window (drop (n * window) bytes)),
+      count_in_append (λ b. eqb b i) (take (n * window) bytes) (take window (drop (n * window) bytes)),
     )
-    (omega (arith, windows-served i window service bytes served n (omega arith), served n fits'))
+    (omega (arith, windows_served i window service bytes served n (omega arith), served n fits'))

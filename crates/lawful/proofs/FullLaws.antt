@@ -13,9 +13,9 @@ use Rattle.job.specs.declared.record.Job.{Job}
 use Rattle.job.specs.declared.list.JobList.{JobList}
 use Rattle.job.specs.Sound.{SoundJob, SoundList}
 use Rattle.place.specs.declared.setting.Setting.{Setting}
-use Rattle.rules.specs.Rules.{slots_of, windowStart, sinceWindow, finished, job_of, endsShort}
+use Rattle.rules.specs.Rules.{slots_of, window_start, since_window, finished, job_of, ends_short}
 use Rattle.lawful.specs.Lawful.{Full}
-use Rattle.lawful.proofs.TimetableLaws.{part-of-front}
+use Rattle.lawful.proofs.TimetableLaws.{part_of_front}
 
 module _ (l : JobList) (setting : Setting) (relaxed : setting.model ≡ 0) (bytes : List ℕ) (i : ℕ) (listed : i < l.count) (sound : SoundJob (job_of l i)) where
   abbrev job : Job
@@ -26,28 +26,28 @@ module _ (l : JobList) (setting : Setting) (relaxed : setting.model ≡ 0) (byte
 
   -- the slots of the job in the window that slot n is in, that slot counted
   abbrev had : ℕ → ℕ
-  had n = slots_of i (sinceWindow job n (take (n + 1) bytes))
+  had n = slots_of i (since_window job n (take (n + 1) bytes))
 
   some : 0 < window
   some = mul-pos sound.k.low sound.t.low
 
   -- window number w, from its last slot
-  window-seen : (w n : ℕ) → w * window + window ≡ n + 1 → n < length bytes → slots_of i (take window (drop (w * window) bytes)) ≡ had n
-  window-seen w n last inside =
+  window_seen : (w n : ℕ) → w * window + window ≡ n + 1 → n < length bytes → slots_of i (take window (drop (w * window) bytes)) ≡ had n
+  window_seen w n last inside =
       let low : 0 < window = some in
       let place : w * window + (window - 1) ≡ n = omega arith in
       let rest : n % window ≡ window - 1 = ap (◌% window) (sym place) ∙ digits_mod w (omega arith) in
-      let start : windowStart job n ≡ w * window = omega arith in
+      let start : window_start job n ≡ w * window = omega arith in
       ap (slots_of i)
-      (part-of-front (w * window) window bytes (omega arith)
+      (part_of_front (w * window) window bytes (omega arith)
       ∙ ap₂ (λ (from upto : ℕ). drop from (take upto bytes)) (sym start) last)
 
-  short-by : (n : ℕ) → endsShort l setting bytes n i ≡ (eqb ((n + 1) % window) 0 && ltb 0 (job.m - had n / job.c))
-  unfolding endsShort finished
-  short-by n = rw (eq-eqb setting.model 0 relaxed)
+  short_by : (n : ℕ) → ends_short l setting bytes n i ≡ (eqb ((n + 1) % window) 0 && ltb 0 (job.m - had n / job.c))
+  unfolding ends_short finished
+  short_by n = rw (eq-eqb setting.model 0 relaxed)
 
-  pub not_short : Full l bytes → (n : ℕ) → n < length bytes → endsShort l setting bytes n i ≡ false
-  not_short full n inside = short-by n ∙ go (eqb ((n + 1) % window) 0) refl
+  pub not_short : Full l bytes → (n : ℕ) → n < length bytes → ends_short l setting bytes n i ≡ false
+  not_short full n inside = short_by n ∙ go (eqb ((n + 1) % window) 0) refl
     where
       go : (b : Bool) → eqb ((n + 1) % window) 0 ≡ b → (b && ltb 0 (job.m - had n / job.c)) ≡ false
       go false e = refl
@@ -58,24 +58,24 @@ module _ (l : JobList) (setting : Setting) (relaxed : setting.model ≡ 0) (byte
           let w : ℕ = (n + 1) / window - 1 in
           let one_less : w + 1 ≡ (n + 1) / window = omega arith in
           let last : w * window + window ≡ n + 1 = omega (arith, ap (◌* window) one_less) in
-          let enough : job.m * job.c ≤ had n = rw (← window-seen w n last inside) (full i listed w (omega arith)) in
+          let enough : job.m * job.c ≤ had n = rw (← window_seen w n last inside) (full i listed w (omega arith)) in
           let done : job.m ≤ had n / job.c = (le-div_iff_mul-le sound.c.low).1 enough in
           le-ltb 0 (job.m - had n / job.c) (omega arith)
 
-  full-where :
-      ((n : ℕ) → n < length bytes → endsShort l setting bytes n i ≡ false) → (w : ℕ) → w * window + window ≤ length bytes
+  full_where :
+      ((n : ℕ) → n < length bytes → ends_short l setting bytes n i ≡ false) → (w : ℕ) → w * window + window ≤ length bytes
       → job.m * job.c ≤ slots_of i (take window (drop (w * window) bytes))
-  full-where none w inside =
+  full_where none w inside =
       let n : ℕ = w * window + (window - 1) in
       let last : w * window + window ≡ n + 1 = omega (arith, some) in
       let whole : (n + 1) % window ≡ 0 = ap (◌% window) (sym last ∙ omega (arith, suc-mul w window)) ∙ mul-mod_left (w + 1) window in
       let not-owed : ltb 0 (job.m - had n / job.c) ≡ false =
-      ap (◌&& ltb 0 (job.m - had n / job.c)) (sym (eq-eqb ((n + 1) % window) 0 whole)) ∙ sym (short-by n) ∙ none n (omega arith) in
+      ap (◌&& ltb 0 (job.m - had n / job.c)) (sym (eq-eqb ((n + 1) % window) 0 whole)) ∙ sym (short_by n) ∙ none n (omega arith) in
       let owes = ltb-false 0 (job.m - had n / job.c) not-owed in
-      rw (window-seen w n last (omega arith)) ((le-div_iff_mul-le sound.c.low).0 (omega arith))
+      rw (window_seen w n last (omega arith)) ((le-div_iff_mul-le sound.c.low).0 (omega arith))
 
 -- where no window ends short
-pub none-short :
+pub none_short :
     (l : JobList) → SoundList l → (setting : Setting) → setting.model ≡ 0 → (bytes : List ℕ)
-    → ((i : ℕ) → i < l.count → (n : ℕ) → n < length bytes → endsShort l setting bytes n i ≡ false) → Full l bytes
-none-short l jobs setting relaxed bytes none i listed = full-where l setting relaxed bytes i listed (jobs.jobs i listed) (none i listed)
+    → ((i : ℕ) → i < l.count → (n : ℕ) → n < length bytes → ends_short l setting bytes n i ≡ false) → Full l bytes
+none_short l jobs setting relaxed bytes none i listed = full_where l setting relaxed bytes i listed (jobs.jobs i listed) (none i listed)

@@ -8,23 +8,23 @@ use native.Mathlib.Omega.{arith}
 use borrow.Author.Tests.{lt-ltb}
 use Rattle.place.specs.declared.setting.Setting.{Setting}
 use Rattle.place.specs.declared.record.Place.{Place}
-use Rattle.place.specs.Setting.{byUnits}
-use Rattle.place.specs.Place.{windowLeft, left_of, eligibleOf}
-use Rattle.place.specs.Choice.{candidateOf}
+use Rattle.place.specs.Setting.{by_units}
+use Rattle.place.specs.Place.{window_left, left_of, eligible_of}
+use Rattle.place.specs.Choice.{candidate_of}
 use Rattle.place.specs.Sound.{SoundPlace}
 use Rattle.job.proofs.TestLaws.{clash}
-use Rattle.place.proofs.PlaceLaws.{candidate-units}
+use Rattle.place.proofs.PlaceLaws.{candidate_units}
 
 -- the slots given in the open window, this one counted
-abbrev pub usedOf : Place → Bool → ℕ
-usedOf q chosen = cond chosen (q.at.u + 1) q.at.u
+abbrev pub used_of : Place → Bool → ℕ
+used_of q chosen = cond chosen (q.at.u + 1) q.at.u
 
 -- a place that is not eligible has had all its slots, or C for each period begun
-pub not-eligible :
-    (setting : Setting) (q : Place) → byUnits setting ≡ true → eligibleOf setting q ≡ false
+pub not_eligible :
+    (setting : Setting) (q : Place) → by_units setting ≡ true → eligible_of setting q ≡ false
     → (q.job.m * q.job.c ≤ q.at.u) ⊎ (q.at.p * q.job.c ≤ q.at.u)
-unfolding eligibleOf
-not-eligible setting q units e = go (dec_lt q.at.u (q.job.m * q.job.c)) (dec_lt q.at.u (q.at.p * q.job.c))
+unfolding eligible_of
+not_eligible setting q units e = go (dec_lt q.at.u (q.job.m * q.job.c)) (dec_lt q.at.u (q.at.p * q.job.c))
   where
     go :
         Dec (q.at.u < q.job.m * q.job.c) → Dec (q.at.u < q.at.p * q.job.c)
@@ -42,13 +42,13 @@ not-eligible setting q units e = go (dec_lt q.at.u (q.job.m * q.job.c)) (dec_lt 
 
 module _ {setting : Setting} {q : Place} (sound : SoundPlace setting q) where
   -- the periods that follow the open one are still to come after the slot
-  pub left-more : (q.job.k - q.at.p) * q.job.t + 1 ≤ left_of q
-  unfolding left_of windowLeft
-  left-more = omega (arith, sound.e-high)
+  pub left_more : (q.job.k - q.at.p) * q.job.t + 1 ≤ left_of q
+  unfolding left_of window_left
+  left_more = omega (arith, sound.e_high)
 
   -- only a candidate is given a slot, so its slots stay within C for each period begun
-  pub used-most :
-      byUnits setting ≡ true → (chosen : Bool) → (chosen ≡ true → candidateOf setting q ≡ true)
-      → usedOf q chosen ≤ q.at.p * q.job.c
-  used-most units true fair = omega (arith, candidate-units setting q units (fair refl))
-  used-most units false fair = (sound.service.by_units units).u-p
+  pub used_most :
+      by_units setting ≡ true → (chosen : Bool) → (chosen ≡ true → candidate_of setting q ≡ true)
+      → used_of q chosen ≤ q.at.p * q.job.c
+  used_most units true fair = omega (arith, candidate_units setting q units (fair refl))
+  used_most units false fair = (sound.service.by_units_lem units).u_p

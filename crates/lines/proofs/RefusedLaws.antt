@@ -10,33 +10,33 @@ use Rattle.job.specs.Told.{told}
 use Rattle.job.specs.contracts.refusal.Refusal.{the_type}
 use Rattle.text.specs.Ascii.{ascii}
 use Rattle.lines.specs.Parts.{labelled}
-use Rattle.lines.specs.Refused.{valueText}
+use Rattle.lines.specs.Refused.{value_text}
 
 -- a refusal whose variant names a job
-pub job-named :
-    {r s : Refusal} {j k : ℕ} → r ≡ s → j ≡ k → valueText (told s) ≡ labelled (ascii " job ") k
-    → valueText (told r) ≡ labelled (ascii " job ") j
-job-named e same named = ap (λ (x : Refusal). valueText (told x)) e ∙ named ∙ ap (labelled (ascii " job ")) (sym same)
+pub job_named :
+    {r s : Refusal} {j k : ℕ} → r ≡ s → j ≡ k → value_text (told s) ≡ labelled (ascii " job ") k
+    → value_text (told r) ≡ labelled (ascii " job ") j
+job_named e same named = ap (λ (x : Refusal). value_text (told x)) e ∙ named ∙ ap (labelled (ascii " job ")) (sym same)
 
 -- every variant that names neither, as the code tells them apart
 abbrev pub others : List ℕ
 others = 0 ∷ 1 ∷ 6 ∷ 7 ∷ 8 ∷ 9 ∷ 10 ∷ 11 ∷ 13 ∷ 14 ∷ 15 ∷ 16 ∷ []
 
-pub nothing-named : (r : Refusal) → OneOf others (tag_of the_type r) → valueText (told r) ≡ []
-nothing-named NoJobs k = refl
-nothing-named TooManyJobs k = refl
-nothing-named (Period j) k = absurd (miss others 2 tt k)
-nothing-named (Service j) k = absurd (miss others 3 tt k)
-nothing-named (Window j) k = absurd (miss others 4 tt k)
-nothing-named (Share j) k = absurd (miss others 5 tt k)
-nothing-named OriginalModel k = refl
-nothing-named CycleTooLong k = refl
-nothing-named (Overload h d) k = refl
-nothing-named StateOutOfRange k = refl
-nothing-named ClockAtLimit k = refl
-nothing-named BufferTooShort k = refl
-nothing-named (SheetForm p) k = absurd (miss others 12 tt k)
-nothing-named JobBytes k = refl
-nothing-named OrderOrModel k = refl
-nothing-named SlotCount k = refl
-nothing-named SheetTooLong k = refl
+pub nothing_named : (r : Refusal) → OneOf others (tag_of the_type r) → value_text (told r) ≡ []
+nothing_named NoJobs k = refl
+nothing_named TooManyJobs k = refl
+nothing_named (Period j) k = absurd (miss others 2 tt k)
+nothing_named (Service j) k = absurd (miss others 3 tt k)
+nothing_named (Window j) k = absurd (miss others 4 tt k)
+nothing_named (Share j) k = absurd (miss others 5 tt k)
+nothing_named OriginalModel k = refl
+nothing_named CycleTooLong k = refl
+nothing_named (Overload h d) k = refl
+nothing_named StateOutOfRange k = refl
+nothing_named ClockAtLimit k = refl
+nothing_named BufferTooShort k = refl
+nothing_named (SheetForm p) k = absurd (miss others 12 tt k)
+nothing_named JobBytes k = refl
+nothing_named OrderOrModel k = refl
+nothing_named SlotCount k = refl
+nothing_named SheetTooLong k = refl

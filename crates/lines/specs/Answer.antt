@@ -3,9 +3,9 @@ use Rattle.std.specs.Prelude.{ℕ, List}
 use Rattle.job.specs.Told.{told}
 use Rattle.run.specs.declared.answer.StepAnswer.{StepAnswer}
 use Rattle.run.specs.declared.answer.StepAnswer.TheVariants.{Done, Refused}
-use Rattle.lines.specs.Slot.{slotText}
-use Rattle.lines.specs.Refused.{refusalText}
+use Rattle.lines.specs.Slot.{slot_text}
+use Rattle.lines.specs.Refused.{refusal_text}
 
-abbrev pub answerText : ℕ → StepAnswer → List ℕ
-answerText number (Done slot) = slotText number slot
-answerText number (Refused refusal) = refusalText (told refusal)
+abbrev pub answer_text : ℕ → StepAnswer → List ℕ
+answer_text number (Done slot) = slot_text number slot
+answer_text number (Refused refusal) = refusal_text (told refusal)

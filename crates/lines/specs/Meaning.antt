@@ -5,7 +5,7 @@ use Rattle.job.specs.declared.refusal.Refusal.{Refusal}
 use Rattle.job.specs.declared.refusal.Refusal.TheVariants.{Period, OriginalModel, CycleTooLong, SheetForm}
 use Rattle.job.specs.Told.{Told, row, told}
 use Rattle.admission.specs.declared.answer.Admission.{Admission}
-use Rattle.admission.specs.Answer.{toldAdmission}
+use Rattle.admission.specs.Answer.{told_admission}
 use Rattle.run.specs.declared.answer.Choice.TheVariants.{Given}
 use Rattle.run.specs.declared.answer.StepAnswer.{StepAnswer}
 use Rattle.run.specs.declared.answer.Slot.{Slot}
@@ -13,93 +13,93 @@ use Rattle.run.specs.declared.state.Totals.{Totals}
 use Rattle.shortfall.specs.declared.answer.First.TheVariants.{Never, Slot as FirstIn}
 use Rattle.shortfall.specs.declared.answer.Below.{Below}
 use Rattle.text.specs.Ascii.{ascii}
-use Rattle.lines.specs.Slot.{slotText}
-use Rattle.lines.specs.Summary.{admissionText, totalsText}
-use Rattle.lines.specs.Refused.{refusalText}
-use Rattle.lines.specs.Answer.{answerText}
-use Rattle.lines.specs.Below.{belowText, fallenText}
+use Rattle.lines.specs.Slot.{slot_text}
+use Rattle.lines.specs.Summary.{admission_text, totals_text}
+use Rattle.lines.specs.Refused.{refusal_text}
+use Rattle.lines.specs.Answer.{answer_text}
+use Rattle.lines.specs.Below.{below_text, fallen_text}
 use Rattle.lines.specs.Promise.{SlotLinePromise, RefusalLinePromise, AnswerLinePromise, AdmissionLinePromise, TotalsLinePromise, JobLinePromise, FallenLinePromise}
 
 -- 'slot 1 of case F: "1 0 t1 s1"'
 abbrev pub SlotOneOfF : Type 0
-SlotOneOfF = slotText 1 (record { choice = Given 0; tags = 2; shorts = 2 }) ≡ ascii "1 0 t1 s1\n"
+SlotOneOfF = slot_text 1 (record { choice = Given 0; tags = 2; shorts = 2 }) ≡ ascii "1 0 t1 s1\n"
 
 -- the first and the last line of case A, and case I, whose load is above its cycle
 abbrev pub FirstLineOfA : Type 0
-FirstLineOfA = admissionText (row 0 (12 ∷ 7 ∷ [])) ≡ ascii "cycle 12 load 7 admitted\n"
+FirstLineOfA = admission_text (row 0 (12 ∷ 7 ∷ [])) ≡ ascii "cycle 12 load 7 admitted\n"
 
 abbrev pub LastLineOfA : Type 0
-LastLineOfA = totalsText (record { given = 4; idle = 2; tags = 0; shorts = 0 }) ≡ ascii "given 4 idle 2 tagged 0 short 0\n"
+LastLineOfA = totals_text (record { given = 4; idle = 2; tags = 0; shorts = 0 }) ≡ ascii "given 4 idle 2 tagged 0 short 0\n"
 
 abbrev pub FirstLineOfI : Type 0
-FirstLineOfI = admissionText (row 9 (25500 ∷ 25501 ∷ [])) ≡ ascii "cycle 25500 load 25501 over\n"
+FirstLineOfI = admission_text (row 9 (25500 ∷ 25501 ∷ [])) ≡ ascii "cycle 25500 load 25501 over\n"
 
 -- 'so 0 and 0 in the last two'
 abbrev pub FirstLineTooLong : Type 0
-FirstLineTooLong = admissionText (told CycleTooLong) ≡ ascii "cycle 0 load 0 cycle too long\n"
+FirstLineTooLong = admission_text (told CycleTooLong) ≡ ascii "cycle 0 load 0 cycle too long\n"
 
 abbrev pub FirstLineNotJudged : Type 0
-FirstLineNotJudged = admissionText (told OriginalModel) ≡ ascii "cycle 0 load 0 not judged\n"
+FirstLineNotJudged = admission_text (told OriginalModel) ≡ ascii "cycle 0 load 0 not judged\n"
 
 -- '" job J" for 3 to 6 or " at P" for 13'
 abbrev pub LineOfRowThree : Type 0
-LineOfRowThree = refusalText (told (Period 2)) ≡ ascii "refused 3 job 2\n"
+LineOfRowThree = refusal_text (told (Period 2)) ≡ ascii "refused 3 job 2\n"
 
 abbrev pub LineOfRowThirteen : Type 0
-LineOfRowThirteen = refusalText (told (SheetForm 7)) ≡ ascii "refused 13 at 7\n"
+LineOfRowThirteen = refusal_text (told (SheetForm 7)) ≡ ascii "refused 13 at 7\n"
 
 -- 'job J never below', and 'job J below in A of B windows a cycle, first in slot S', slot 0 too
 abbrev pub LineOfNever : Type 0
-LineOfNever = belowText 2 (record { windows = 3; short = 0; first = Never }) ≡ ascii "job 2 never below\n"
+LineOfNever = below_text 2 (record { windows = 3; short = 0; first = Never }) ≡ ascii "job 2 never below\n"
 
 abbrev pub LineOfBelow : Type 0
 LineOfBelow =
-    belowText 1 (record { windows = 3; short = 2; first = FirstIn 0 })
+    below_text 1 (record { windows = 3; short = 2; first = FirstIn 0 })
     ≡ ascii "job 1 below in 2 of 3 windows a cycle, first in slot 0\n"
 
 -- 'no job falls below', and 'N of M jobs fall below'
 abbrev pub LineOfNoneFallen : Type 0
-LineOfNoneFallen = fallenText 0 2 ≡ ascii "no job falls below\n"
+LineOfNoneFallen = fallen_text 0 2 ≡ ascii "no job falls below\n"
 
 abbrev pub LineOfOneFallen : Type 0
-LineOfOneFallen = fallenText 1 2 ≡ ascii "1 of 2 jobs fall below\n"
+LineOfOneFallen = fallen_text 1 2 ≡ ascii "1 of 2 jobs fall below\n"
 
 -- a buffer of 192 bytes holds any line
 abbrev pub EveryLineFits : Type 0
 EveryLineFits =
-    ((n : ℕ) (s : Slot) → length (slotText n s) ≤ 192)
-    × ((t : Told) → length (admissionText t) ≤ 192)
-    × ((t : Totals) → length (totalsText t) ≤ 192)
-    × ((t : Told) → length (refusalText t) ≤ 192)
-    × ((job : ℕ) (b : Below) → length (belowText job b) ≤ 192)
-    × ((fallen jobs : ℕ) → length (fallenText fallen jobs) ≤ 192)
+    ((n : ℕ) (s : Slot) → length (slot_text n s) ≤ 192)
+    × ((t : Told) → length (admission_text t) ≤ 192)
+    × ((t : Totals) → length (totals_text t) ≤ 192)
+    × ((t : Told) → length (refusal_text t) ≤ 192)
+    × ((job : ℕ) (b : Below) → length (below_text job b) ≤ 192)
+    × ((fallen jobs : ℕ) → length (fallen_text fallen jobs) ≤ 192)
 
 -- a line in its buffer: the text at the start, and the other bytes as they were
 pub record Line (text before : List ℕ) (r : ℕ) (after : List ℕ) : Type 0 where
   pub long : r ≡ length text
-  pub text-is : take r after ≡ text
+  pub text_is : take r after ≡ text
   pub stays : drop r after ≡ drop r before
 
 -- whatever the promises of the seven functions allow is the line of their text
 pub record LinesWritten : Type 0 where
   pub slot :
       (number : ℕ) (slot : Slot) (before : List ℕ) (r : ℕ) (after : List ℕ) → length before ≡ 192
-      → SlotLinePromise number slot before r after → Line (slotText number slot) before r after
+      → SlotLinePromise number slot before r after → Line (slot_text number slot) before r after
   pub refusal :
       (refusal : Refusal) (before : List ℕ) (r : ℕ) (after : List ℕ) → length before ≡ 192
-      → RefusalLinePromise refusal before r after → Line (refusalText (told refusal)) before r after
+      → RefusalLinePromise refusal before r after → Line (refusal_text (told refusal)) before r after
   pub answer :
       (number : ℕ) (answer : StepAnswer) (before : List ℕ) (r : ℕ) (after : List ℕ) → length before ≡ 192
-      → AnswerLinePromise number answer before r after → Line (answerText number answer) before r after
+      → AnswerLinePromise number answer before r after → Line (answer_text number answer) before r after
   pub admission :
       (answer : Admission) (before : List ℕ) (r : ℕ) (after : List ℕ) → length before ≡ 192
-      → AdmissionLinePromise answer before r after → Line (admissionText (toldAdmission answer)) before r after
+      → AdmissionLinePromise answer before r after → Line (admission_text (told_admission answer)) before r after
   pub totals :
       (totals : Totals) (before : List ℕ) (r : ℕ) (after : List ℕ) → length before ≡ 192
-      → TotalsLinePromise totals before r after → Line (totalsText totals) before r after
+      → TotalsLinePromise totals before r after → Line (totals_text totals) before r after
   pub job :
       (job : ℕ) (below : Below) (before : List ℕ) (r : ℕ) (after : List ℕ) → length before ≡ 192
-      → JobLinePromise job below before r after → Line (belowText job below) before r after
+      → JobLinePromise job below before r after → Line (below_text job below) before r after
   pub fallen :
       (fallen jobs : ℕ) (before : List ℕ) (r : ℕ) (after : List ℕ) → length before ≡ 192
-      → FallenLinePromise fallen jobs before r after → Line (fallenText fallen jobs) before r after
+      → FallenLinePromise fallen jobs before r after → Line (fallen_text fallen jobs) before r after

@@ -2,7 +2,7 @@
 ghost use Rattle.std.specs.Prelude.{◌≡◌, ◌+◌, ◌≤◌, length};
 ghost use Rattle.text.specs.Written.{written};
 ghost use Rattle.lines.specs.Promise.{JobLinePromise, FallenLinePromise};
-ghost use Rattle.lines.specs.Below.{fallText};
+ghost use Rattle.lines.specs.Below.{fall_text};
 
 use crate::parts::put_labelled;
 use shortfall::{Below, First};
@@ -11,8 +11,8 @@ use text::inner::{put_decimal, put_text};
 // 'never below', or 'below in A of B windows a cycle, first in slot S'
 fn put_fall(buf: &mut [u8], at: usize, below: Below) -> usize
     requires { at + 107 ≤ length buf.old }
-    ensures value { result ≡ at + length (fallText below.short below.windows below.first) }
-    ensures buf_after { buf.new ≡ written buf.old at (fallText below.short below.windows below.first) }
+    ensures value { result ≡ at + length (fall_text below.short below.windows below.first) }
+    ensures buf_after { buf.new ≡ written buf.old at (fall_text below.short below.windows below.first) }
 {
     let first = below.first;
     match first {

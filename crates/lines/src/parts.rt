@@ -1,8 +1,8 @@
 // Parts of a line. Each asks for room, which the lines' own lengths give.
 ghost use Rattle.std.specs.Prelude.{◌≡◌, ◌+◌, ◌≤◌, length};
-ghost use Rattle.job.specs.Limit.{countMost};
+ghost use Rattle.job.specs.Limit.{count_most};
 ghost use Rattle.text.specs.Written.{written};
-ghost use Rattle.lines.specs.Slot.{choiceText, setText};
+ghost use Rattle.lines.specs.Slot.{choice_text, set_text};
 ghost use Rattle.lines.specs.Parts.{labelled};
 
 use job::JobList;
@@ -22,8 +22,8 @@ pub(crate) fn put_labelled(buf: &mut [u8], at: usize, label: &[u8], x: u64) -> u
 // 'job or -'
 pub(crate) fn put_choice(buf: &mut [u8], at: usize, choice: Choice) -> usize
     requires { at + 20 ≤ length buf.old }
-    ensures value { result ≡ at + length (choiceText choice) }
-    ensures buf_after { buf.new ≡ written buf.old at (choiceText choice) }
+    ensures value { result ≡ at + length (choice_text choice) }
+    ensures buf_after { buf.new ≡ written buf.old at (choice_text choice) }
 {
     match choice {
         Choice::Given(job) => put_decimal(buf, at, job as u64),
@@ -35,8 +35,8 @@ pub(crate) fn put_choice(buf: &mut [u8], at: usize, choice: Choice) -> usize
 pub(crate) fn put_set(buf: &mut [u8], at: usize, label: &[u8], set: u16) -> usize
     requires label_len { length label.now ≡ 2 }
     requires at_in_bounds { at + 80 ≤ length buf.old }
-    ensures value { result ≡ at + length (setText label.now set countMost) }
-    ensures buf_after { buf.new ≡ written buf.old at (setText label.now set countMost) }
+    ensures value { result ≡ at + length (set_text label.now set count_most) }
+    ensures buf_after { buf.new ≡ written buf.old at (set_text label.now set count_most) }
 {
     let mut end = at;
     let mut rest = set;

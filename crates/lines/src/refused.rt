@@ -3,7 +3,7 @@ ghost use Rattle.std.specs.Prelude.{◌≡◌, ◌+◌, ◌≤◌, length};
 ghost use Rattle.job.specs.Told.{told};
 ghost use Rattle.text.specs.Written.{written};
 ghost use Rattle.lines.specs.Promise.{RefusalLinePromise};
-ghost use Rattle.lines.specs.Refused.{valueText};
+ghost use Rattle.lines.specs.Refused.{value_text};
 
 use crate::parts::put_labelled;
 use job::Refusal;
@@ -12,8 +12,8 @@ use text::inner::put_text;
 // The value that the line names, after its label; nothing for the other rows.
 fn put_value(buf: &mut [u8], at: usize, refusal: Refusal) -> usize
     requires { at + 25 ≤ length buf.old }
-    ensures value { result ≡ at + length (valueText (told refusal)) }
-    ensures buf_after { buf.new ≡ written buf.old at (valueText (told refusal)) }
+    ensures value { result ≡ at + length (value_text (told refusal)) }
+    ensures buf_after { buf.new ≡ written buf.old at (value_text (told refusal)) }
 {
     match refusal {
         Refusal::Period { job }

@@ -2,7 +2,7 @@
 ghost use Rattle.std.specs.Prelude.{◌≡◌, ◌+◌, ◌≤◌, length};
 ghost use Rattle.text.specs.Written.{written};
 ghost use Rattle.lines.specs.Promise.{AdmissionLinePromise, TotalsLinePromise};
-ghost use Rattle.lines.specs.Summary.{verdictWord};
+ghost use Rattle.lines.specs.Summary.{verdict_word};
 
 use crate::parts::put_labelled;
 use admission::Admission;
@@ -12,8 +12,8 @@ use text::inner::put_text;
 // 'the last word replaced by "over", "cycle too long" or "not judged"'
 fn put_word(buf: &mut [u8], at: usize, number: u32) -> usize
     requires { at + 16 ≤ length buf.old }
-    ensures value { result ≡ at + length (verdictWord number) }
-    ensures buf_after { buf.new ≡ written buf.old at (verdictWord number) }
+    ensures value { result ≡ at + length (verdict_word number) }
+    ensures buf_after { buf.new ≡ written buf.old at (verdict_word number) }
 {
     match number {
         0 => put_text(buf, at, b" admitted\n"),

@@ -1,7 +1,7 @@
 // The fill with spare on or off, for the benchmark and the comparisons alone. It is no part of the
 // C entries: 'the C entry keeps spare off'.
 ghost use Rattle.std.specs.Prelude.{not, eqb};
-ghost use Rattle.place.specs.Setting.{setting_of, withSpare};
+ghost use Rattle.place.specs.Setting.{setting_of, with_spare};
 ghost use Rattle.entry.specs.Promise.{FillPromise};
 
 use place::Setting;
@@ -17,7 +17,7 @@ pub extern "C" fn filbertoss_pace(
     offset: usize,
     n: usize,
 ) -> u32
-    ensures { FillPromise jobs.now (withSpare (setting_of order model) (not (eqb spare 0))) buf.old offset n result buf.new }
+    ensures { FillPromise jobs.now (with_spare (setting_of order model) (not (eqb spare 0))) buf.old offset n result buf.new }
 {
     let mut setting = Setting::of(order, model);
     setting.spare = spare != 0;

@@ -2,7 +2,7 @@
 use mathlib.Core.Path.{◌≡◌, refl}
 use mathlib.Core.Bool.{Bool, true, false, cond}
 
-pub by-test {ℓ κ} :
+pub by_test {ℓ κ} :
     {A : Type ℓ} (P : A → Type κ) (b : Bool) {x y : A} → (b ≡ true → P x) → (b ≡ false → P y) → P (cond b x y)
-by-test P true if-true if-false = if-true refl
-by-test P false if-true if-false = if-false refl
+by_test P true if-true if-false = if-true refl
+by_test P false if-true if-false = if-false refl

@@ -11,101 +11,101 @@ use Rattle.job.proofs.TestLaws.{clash}
 use Rattle.place.specs.declared.setting.Setting.{Setting}
 use Rattle.place.specs.declared.record.Place.{Place}
 use Rattle.place.specs.declared.inner.choice.Fraction.{Fraction}
-use Rattle.place.specs.Setting.{orderV, orderW, inOrderV}
-use Rattle.place.specs.Place.{left_of, eligibleOf}
-use Rattle.place.specs.Choice.{takesSpare, candidateOf, windowMost, dueAway, spareAway, distance_of, nearerOf, soonerOf, held_of, nobody, betterOf}
+use Rattle.place.specs.Setting.{order_v, order_w, in_order_v}
+use Rattle.place.specs.Place.{left_of, eligible_of}
+use Rattle.place.specs.Choice.{takes_spare, candidate_of, window_most, due_away, spare_away, distance_of, nearer_of, sooner_of, held_of, nobody, better_of}
 use Rattle.place.specs.Sound.{SoundPlace}
-use Rattle.place.proofs.CondLaws.{by-test}
-use Rattle.place.proofs.PlaceLaws.{candidate-either, eligible-owed, spare-not-due}
-use Rattle.place.proofs.BoundLaws.{due-high, left-low}
-use Rattle.place.proofs.DistanceLaws.{side, nearer-is, ltb-shift, nearer-self, nearer-back, nearer-through, nobody-farther}
+use Rattle.place.proofs.CondLaws.{by_test}
+use Rattle.place.proofs.PlaceLaws.{candidate_either, eligible_owed, spare_not_due}
+use Rattle.place.proofs.BoundLaws.{due_high, left_low}
+use Rattle.place.proofs.DistanceLaws.{side, nearer_is, ltb_shift, nearer_self, nearer_back, nearer_through, nobody_farther}
 
 module _ (setting : Setting) where
-  due-den : (q : Place) → eligibleOf setting q ≡ true → 0 < (dueAway setting q).den
-  unfolding dueAway
-  due-den q eligible =
-      by-test (λ (d : Fraction). 0 < d.den) (inOrderV setting) (λ e. eligible-owed setting q eligible) (λ e. omega arith)
+  due_den : (q : Place) → eligible_of setting q ≡ true → 0 < (due_away setting q).den
+  unfolding due_away
+  due_den q eligible =
+      by_test (λ (d : Fraction). 0 < d.den) (in_order_v setting) (λ e. eligible_owed setting q eligible) (λ e. omega arith)
 
-  candidate-den : (q : Place) → candidateOf setting q ≡ true → 0 < (distance_of setting q).den
+  candidate_den : (q : Place) → candidate_of setting q ≡ true → 0 < (distance_of setting q).den
   unfolding distance_of
-  candidate-den q candidate = by-test (λ (d : Fraction). 0 < d.den) (eligibleOf setting q) (due-den q) (λ e. omega arith)
+  candidate_den q candidate = by_test (λ (d : Fraction). 0 < d.den) (eligible_of setting q) (due_den q) (λ e. omega arith)
 
   -- it is strict, and who is not before another is behind whatever that is behind
 
-  pub sooner-self : (q : Place) → soonerOf setting q q ≡ false
-  unfolding soonerOf
-  sooner-self q = nearer-self (distance_of setting q)
+  pub sooner_self : (q : Place) → sooner_of setting q q ≡ false
+  unfolding sooner_of
+  sooner_self q = nearer_self (distance_of setting q)
 
-  pub sooner-back : (q r : Place) → soonerOf setting q r ≡ true → soonerOf setting r q ≡ false
-  unfolding soonerOf
-  sooner-back q r = nearer-back (distance_of setting q) (distance_of setting r)
+  pub sooner_back : (q r : Place) → sooner_of setting q r ≡ true → sooner_of setting r q ≡ false
+  unfolding sooner_of
+  sooner_back q r = nearer_back (distance_of setting q) (distance_of setting r)
 
-  pub sooner-through :
-      (a b c : Place) → candidateOf setting c ≡ true → soonerOf setting a b ≡ true → soonerOf setting c b ≡ false
-      → soonerOf setting a c ≡ true
-  unfolding soonerOf
-  sooner-through a b c candidate =
-      nearer-through (distance_of setting a) (distance_of setting b) (distance_of setting c) (candidate-den c candidate)
+  pub sooner_through :
+      (a b c : Place) → candidate_of setting c ≡ true → sooner_of setting a b ≡ true → sooner_of setting c b ≡ false
+      → sooner_of setting a c ≡ true
+  unfolding sooner_of
+  sooner_through a b c candidate =
+      nearer_through (distance_of setting a) (distance_of setting b) (distance_of setting c) (candidate_den c candidate)
 
   -- a search goes by it alone
 
-  pub better-held :
+  pub better_held :
       (i j : ℕ) (q r : Place)
-      → betterOf setting (held_of setting j r) i q
-      ≡ cond (candidateOf setting q && soonerOf setting q r) (held_of setting i q) (held_of setting j r)
-  unfolding betterOf soonerOf
-  better-held i j q r = refl
+      → better_of setting (held_of setting j r) i q
+      ≡ cond (candidate_of setting q && sooner_of setting q r) (held_of setting i q) (held_of setting j r)
+  unfolding better_of sooner_of
+  better_held i j q r = refl
 
-  pub better-nobody : (i : ℕ) (q : Place) → betterOf setting nobody i q ≡ cond (candidateOf setting q) (held_of setting i q) nobody
-  unfolding betterOf
-  better-nobody i q = go (candidateOf setting q) refl
+  pub better_nobody : (i : ℕ) (q : Place) → better_of setting nobody i q ≡ cond (candidate_of setting q) (held_of setting i q) nobody
+  unfolding better_of
+  better_nobody i q = go (candidate_of setting q) refl
     where
       go :
-          (b : Bool) → candidateOf setting q ≡ b
-          → cond (b && nearerOf (distance_of setting q) nobody.away) (held_of setting i q) nobody ≡ cond b (held_of setting i q) nobody
-      go true e = rw (nobody-farther (distance_of setting q) (candidate-den q e))
+          (b : Bool) → candidate_of setting q ≡ b
+          → cond (b && nearer_of (distance_of setting q) nobody.away) (held_of setting i q) nobody ≡ cond b (held_of setting i q) nobody
+      go true e = rw (nobody_farther (distance_of setting q) (candidate_den q e))
       go false e = refl
 
 -- the eligible by their deadlines, before all who take a spare slot, and these by the ends of their windows
 
 module _ (setting : Setting) (q r : Place) where
-  pub due-sooner :
-      eligibleOf setting q ≡ true → eligibleOf setting r ≡ true → soonerOf setting q r ≡ nearerOf (dueAway setting q) (dueAway setting r)
-  unfolding soonerOf distance_of
-  due-sooner e f = rw (e, f)
+  pub due_sooner :
+      eligible_of setting q ≡ true → eligible_of setting r ≡ true → sooner_of setting q r ≡ nearer_of (due_away setting q) (due_away setting r)
+  unfolding sooner_of distance_of
+  due_sooner e f = rw (e, f)
 
-  pub spare-sooner :
-      takesSpare setting q ≡ true → takesSpare setting r ≡ true → soonerOf setting q r ≡ ltb (left_of q) (left_of r)
-  unfolding soonerOf distance_of
-  spare-sooner e f =
-      rw (spare-not-due setting q e, spare-not-due setting r f)
-      (nearer-is (spareAway q) (spareAway r)
-      ∙ ltb-shift (side (spareAway q) (spareAway r)) (side (spareAway r) (spareAway q)) (left_of q) (left_of r) 0 windowMost (omega arith) (omega arith))
+  pub spare_sooner :
+      takes_spare setting q ≡ true → takes_spare setting r ≡ true → sooner_of setting q r ≡ ltb (left_of q) (left_of r)
+  unfolding sooner_of distance_of
+  spare_sooner e f =
+      rw (spare_not_due setting q e, spare_not_due setting r f)
+      (nearer_is (spare_away q) (spare_away r)
+      ∙ ltb_shift (side (spare_away q) (spare_away r)) (side (spare_away r) (spare_away q)) (left_of q) (left_of r) 0 window_most (omega arith) (omega arith))
 
-  pub due-first :
-      SoundPlace setting q → SoundPlace setting r → eligibleOf setting q ≡ true → takesSpare setting r ≡ true → soonerOf setting q r ≡ true
-  unfolding soonerOf distance_of
-  due-first sound-q sound-r e f =
-      let a : Fraction = dueAway setting q in
-      let far : ℕ = windowMost + left_of r in
-      let more = mul-le-mul {n₁ = far} {m₁ = 1} {n₂ = far} {m₂ = a.den} (le_refl far) (due-den setting q e) in
-      rw (e, spare-not-due setting r f)
-      (nearer-is a (spareAway r)
-      ∙ lt-ltb (side a (spareAway r)) (side (spareAway r) a) (omega (arith, due-high sound-q, left-low sound-r)))
+  pub due_first :
+      SoundPlace setting q → SoundPlace setting r → eligible_of setting q ≡ true → takes_spare setting r ≡ true → sooner_of setting q r ≡ true
+  unfolding sooner_of distance_of
+  due_first sound-q sound-r e f =
+      let a : Fraction = due_away setting q in
+      let far : ℕ = window_most + left_of r in
+      let more = mul-le-mul {n₁ = far} {m₁ = 1} {n₂ = far} {m₂ = a.den} (le_refl far) (due_den setting q e) in
+      rw (e, spare_not_due setting r f)
+      (nearer_is a (spare_away r)
+      ∙ lt-ltb (side a (spare_away r)) (side (spare_away r) a) (omega (arith, due_high sound-q, left_low sound-r)))
 
 -- 'Order W: soonest window end': where some are eligible, one of them is chosen whose window ends no later
 module _
-    {setting : Setting} {q r : Place} (sound-q : SoundPlace setting q) (sound-r : SoundPlace setting r) (order : setting.order ≡ orderW)
-    (eligible : eligibleOf setting r ≡ true) (behind : soonerOf setting r q ≡ false)
+    {setting : Setting} {q r : Place} (sound-q : SoundPlace setting q) (sound-r : SoundPlace setting r) (order : setting.order ≡ order_w)
+    (eligible : eligible_of setting r ≡ true) (behind : sooner_of setting r q ≡ false)
   where
-    ends-first : eligibleOf setting q ≡ true → left_of q ≤ left_of r
-    unfolding dueAway nearerOf
-    ends-first due =
-        let order-test : inOrderV setting ≡ false = ne_eqb setting.order orderV (omega arith) in
-        let h = ltb-false (left_of r * 1) (left_of q * 1) (simp order-test at (sym (due-sooner setting r q eligible due) ∙ behind)) in
+    ends_first : eligible_of setting q ≡ true → left_of q ≤ left_of r
+    unfolding due_away nearer_of
+    ends_first due =
+        let order-test : in_order_v setting ≡ false = ne_eqb setting.order order_v (omega arith) in
+        let h = ltb-false (left_of r * 1) (left_of q * 1) (simp order-test at (sym (due_sooner setting r q eligible due) ∙ behind)) in
         omega arith
 
-    pub window-first : candidateOf setting q ≡ true → (eligibleOf setting q ≡ true) × (left_of q ≤ left_of r)
-    window-first candidate =
-        ⊎_elim (λ due. (due, ends-first due)) (λ spare. absurd (clash behind (due-first setting r q sound-r sound-q eligible spare)))
-        (candidate-either setting q candidate)
+    pub window_first : candidate_of setting q ≡ true → (eligible_of setting q ≡ true) × (left_of q ≤ left_of r)
+    window_first candidate =
+        ⊎_elim (λ due. (due, ends_first due)) (λ spare. absurd (clash behind (due_first setting r q sound-r sound-q eligible spare)))
+        (candidate_either setting q candidate)

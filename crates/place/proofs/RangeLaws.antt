@@ -7,32 +7,32 @@ use native.Mathlib.Omega.{arith}
 use lib.Dec.{leb, ltb, eqb}
 use borrow.Author.Tests.{not-true, ltb-true, leb-true, eqb-true, eqb-false, lt-ltb, le-leb}
 use Rattle.job.proofs.TestLaws.{clash, both, three, four}
-use Rattle.job.proofs.Meaning.{job-passes-exactly}
+use Rattle.job.proofs.Meaning.{job_passes_exactly}
 use Rattle.place.specs.declared.setting.Setting.{Setting}
 use Rattle.place.specs.declared.record.Place.{Place}
-use Rattle.place.specs.Setting.{byUnits}
+use Rattle.place.specs.Setting.{by_units}
 use Rattle.place.specs.Opening.{blank}
-use Rattle.place.specs.Range.{jobPasses, withinM, unitsInRange, instancesInRange, serviceInRange, progressInRange, placeBlank, placeInRange}
+use Rattle.place.specs.Range.{job_passes, within_m, units_in_range, instances_in_range, service_in_range, progress_in_range, place_blank, place_in_range}
 use Rattle.place.specs.Sound.{ServiceByUnits, ServiceByInstances, SoundService, SoundPlace}
 
 -- the service of a place
 module _ (q : Place) where
-  units-exactly : (unitsInRange q ≡ true) ↔ ServiceByUnits q.job q.at.p q.at.u q.at.s q.at.v
-  unfolding unitsInRange
-  units-exactly = (
+  units_exactly : (units_in_range q ≡ true) ↔ ServiceByUnits q.job q.at.p q.at.u q.at.s q.at.v
+  unfolding units_in_range
+  units_exactly = (
     λ e.
         let t = three (leb q.at.u (q.at.p * q.job.c)) (eqb q.at.s 0) (eqb q.at.v 0) e in
         record {
-          u-p = leb-true q.at.u (q.at.p * q.job.c) t.0;
-          s-unused = eqb-true q.at.s 0 t.1;
-          v-unused = eqb-true q.at.v 0 t.2;
+          u_p = leb-true q.at.u (q.at.p * q.job.c) t.0;
+          s_unused = eqb-true q.at.s 0 t.1;
+          v_unused = eqb-true q.at.v 0 t.2;
         },
-    λ r. simp (le-leb q.at.u (q.at.p * q.job.c) r.u-p, r.s-unused, r.v-unused),
+    λ r. simp (le-leb q.at.u (q.at.p * q.job.c) r.u_p, r.s_unused, r.v_unused),
   )
 
-  instances-exactly : (instancesInRange q ≡ true) ↔ ServiceByInstances q.job q.at.p q.at.u q.at.s q.at.v
-  unfolding instancesInRange
-  instances-exactly = go (eqb q.at.v q.job.c) refl
+  instances_exactly : (instances_in_range q ≡ true) ↔ ServiceByInstances q.job q.at.p q.at.u q.at.s q.at.v
+  unfolding instances_in_range
+  instances_exactly = go (eqb q.at.v q.job.c) refl
     where
       go :
           (full : Bool) → eqb q.at.v q.job.c ≡ full
@@ -45,13 +45,13 @@ module _ (q : Place) where
             λ e.
                 let t = three (leb 1 q.at.s) (leb q.at.s q.at.p) (eqb q.at.u 0) e in
                 record {
-                  v-c = omega arith;
-                  s-p = leb-true q.at.s q.at.p t.1;
-                  s-open = λ less. absurd (omega arith);
-                  s-full = λ _. leb-true 1 q.at.s t.0;
-                  u-unused = eqb-true q.at.u 0 t.2;
+                  v_c = omega arith;
+                  s_p = leb-true q.at.s q.at.p t.1;
+                  s_open = λ less. absurd (omega arith);
+                  s_full = λ _. leb-true 1 q.at.s t.0;
+                  u_unused = eqb-true q.at.u 0 t.2;
                 },
-            λ o. simp (le-leb 1 q.at.s (o.s-full full), le-leb q.at.s q.at.p o.s-p, o.u-unused),
+            λ o. simp (le-leb 1 q.at.s (o.s_full full), le-leb q.at.s q.at.p o.s_p, o.u_unused),
           )
       go false f =
           let apart = eqb-false q.at.v q.job.c f in (
@@ -59,16 +59,16 @@ module _ (q : Place) where
                 let t = three (leb q.at.v q.job.c) (ltb q.at.s q.at.p) (eqb q.at.u 0) e in
                 let room = ltb-true q.at.s q.at.p t.1 in
                 record {
-                  v-c = leb-true q.at.v q.job.c t.0;
-                  s-p = omega arith;
-                  s-open = λ _. room;
-                  s-full = λ full. absurd (apart full);
-                  u-unused = eqb-true q.at.u 0 t.2;
+                  v_c = leb-true q.at.v q.job.c t.0;
+                  s_p = omega arith;
+                  s_open = λ _. room;
+                  s_full = λ full. absurd (apart full);
+                  u_unused = eqb-true q.at.u 0 t.2;
                 },
             λ o.
-                let high = o.v-c in
-                let room = o.s-open (omega arith) in
-                simp (le-leb q.at.v q.job.c high, lt-ltb q.at.s q.at.p room, o.u-unused),
+                let high = o.v_c in
+                let room = o.s_open (omega arith) in
+                simp (le-leb q.at.v q.job.c high, lt-ltb q.at.s q.at.p room, o.u_unused),
           )
 
 module _ (setting : Setting) (q : Place) where
@@ -79,80 +79,80 @@ module _ (setting : Setting) (q : Place) where
   abbrev InM : Type 0
   InM = (setting.spare ≡ false → q.at.u ≤ q.job.m * q.job.c) × (setting.spare ≡ false → q.at.s ≤ q.job.m)
 
-  within-exactly : (withinM setting q ≡ true) ↔ InM
-  unfolding withinM
-  within-exactly = go setting.spare refl
+  within_exactly : (within_m setting q ≡ true) ↔ InM
+  unfolding within_m
+  within_exactly = go setting.spare refl
     where
-      in-u : Bool
-      in-u = leb q.at.u (q.job.m * q.job.c)
+      in_u : Bool
+      in_u = leb q.at.u (q.job.m * q.job.c)
 
-      in-s : Bool
-      in-s = leb q.at.s q.job.m
+      in_s : Bool
+      in_s = leb q.at.s q.job.m
 
-      go : (spare : Bool) → setting.spare ≡ spare → ((spare || (in-u && in-s)) ≡ true) ↔ InM
+      go : (spare : Bool) → setting.spare ≡ spare → ((spare || (in_u && in_s)) ≡ true) ↔ InM
       go true on = (λ e. (λ off. absurd (clash off on), λ off. absurd (clash off on)), λ m. refl)
       go false off = (
         λ e.
-            let t = both in-u in-s e in
+            let t = both in_u in_s e in
             (λ _. leb-true q.at.u (q.job.m * q.job.c) t.0, λ _. leb-true q.at.s q.job.m t.1),
         λ m. rw (le-leb q.at.u (q.job.m * q.job.c) (m.0 off), le-leb q.at.s q.job.m (m.1 off)),
       )
 
-  service-exactly : (serviceInRange setting q ≡ true) ↔ Service
-  unfolding serviceInRange
-  service-exactly = go (byUnits setting) refl
+  service_exactly : (service_in_range setting q ≡ true) ↔ Service
+  unfolding service_in_range
+  service_exactly = go (by_units setting) refl
     where
       go :
-          (units : Bool) → byUnits setting ≡ units
-          → ((withinM setting q && cond units (unitsInRange q) (instancesInRange q)) ≡ true) ↔ Service
+          (units : Bool) → by_units setting ≡ units
+          → ((within_m setting q && cond units (units_in_range q) (instances_in_range q)) ≡ true) ↔ Service
       go true e = (
         λ t.
-            let parts = both (withinM setting q) (unitsInRange q) t in
-            let m = within-exactly.0 parts.0 in
+            let parts = both (within_m setting q) (units_in_range q) t in
+            let m = within_exactly.0 parts.0 in
             record {
-              u-m = m.0;
-              s-m = m.1;
-              by_units = λ is. (units-exactly q).0 parts.1;
-              by-instances = λ is. absurd (clash is e);
+              u_m = m.0;
+              s_m = m.1;
+              by_units_lem = λ is. (units_exactly q).0 parts.1;
+              by_instances = λ is. absurd (clash is e);
             },
-        λ s. rw (within-exactly.1 (s.u-m, s.s-m)) ((units-exactly q).1 (s.by_units e)),
+        λ s. rw (within_exactly.1 (s.u_m, s.s_m)) ((units_exactly q).1 (s.by_units_lem e)),
       )
       go false e = (
         λ t.
-            let parts = both (withinM setting q) (instancesInRange q) t in
-            let m = within-exactly.0 parts.0 in
+            let parts = both (within_m setting q) (instances_in_range q) t in
+            let m = within_exactly.0 parts.0 in
             record {
-              u-m = m.0;
-              s-m = m.1;
-              by_units = λ is. absurd (clash e is);
-              by-instances = λ is. (instances-exactly q).0 parts.1;
+              u_m = m.0;
+              s_m = m.1;
+              by_units_lem = λ is. absurd (clash e is);
+              by_instances = λ is. (instances_exactly q).0 parts.1;
             },
-        λ s. rw (within-exactly.1 (s.u-m, s.s-m)) ((instances-exactly q).1 (s.by-instances e)),
+        λ s. rw (within_exactly.1 (s.u_m, s.s_m)) ((instances_exactly q).1 (s.by_instances e)),
       )
 
   -- a listed place
-  pub place-facts : placeInRange setting true q ≡ true → SoundPlace setting q
-  unfolding placeInRange progressInRange jobPasses
-  place-facts e =
-      let parts = both (jobPasses q.job) (progressInRange setting q) e in
-      let t = four (ltb q.at.e q.job.t) (leb 1 q.at.p) (leb q.at.p q.job.k) (serviceInRange setting q) parts.1 in
+  pub place_facts : place_in_range setting true q ≡ true → SoundPlace setting q
+  unfolding place_in_range progress_in_range job_passes
+  place_facts e =
+      let parts = both (job_passes q.job) (progress_in_range setting q) e in
+      let t = four (ltb q.at.e q.job.t) (leb 1 q.at.p) (leb q.at.p q.job.k) (service_in_range setting q) parts.1 in
       record {
-        job = (job-passes-exactly 0 q.job).0 parts.0;
-        e-high = ltb-true q.at.e q.job.t t.0;
+        job = (job_passes_exactly 0 q.job).0 parts.0;
+        e_high = ltb-true q.at.e q.job.t t.0;
         period = record { low = leb-true 1 q.at.p t.1; high = leb-true q.at.p q.job.k t.2 };
-        service = service-exactly.0 t.3;
+        service = service_exactly.0 t.3;
       }
 
-  pub place-test : SoundPlace setting q → placeInRange setting true q ≡ true
-  unfolding placeInRange progressInRange jobPasses
-  place-test s =
+  pub place_test : SoundPlace setting q → place_in_range setting true q ≡ true
+  unfolding place_in_range progress_in_range job_passes
+  place_test s =
       simp
-      ((job-passes-exactly 0 q.job).1 s.job, lt-ltb q.at.e q.job.t s.e-high, le-leb 1 q.at.p s.period.low, le-leb q.at.p q.job.k s.period.high, service-exactly.1 s.service)
+      ((job_passes_exactly 0 q.job).1 s.job, lt-ltb q.at.e q.job.t s.e_high, le-leb 1 q.at.p s.period.low, le-leb q.at.p q.job.k s.period.high, service_exactly.1 s.service)
 
 -- a place past the last job
-pub blank-facts : (q : Place) → placeBlank q ≡ true → q ≡ blank
-unfolding placeBlank
-blank-facts q e =
+pub blank_facts : (q : Place) → place_blank q ≡ true → q ≡ blank
+unfolding place_blank
+blank_facts q e =
     let j = q.job in
     let r = q.at in
     let numbers = eqb j.c 0 && eqb j.t 0 && eqb j.m 0 && eqb j.k 0 in
@@ -167,6 +167,6 @@ blank-facts q e =
     go c t m k e p u s v tag =
         λ i. record { job = record { c = c i; t = t i; m = m i; k = k i }; at = record { e = e i; p = p i; u = u i; s = s i; v = v i; tag = tag i } }
 
-pub blank-test : {q : Place} → q ≡ blank → placeBlank q ≡ true
-unfolding placeBlank
-blank-test e = ap placeBlank e
+pub blank_test : {q : Place} → q ≡ blank → place_blank q ≡ true
+unfolding place_blank
+blank_test e = ap place_blank e

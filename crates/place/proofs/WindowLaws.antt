@@ -9,115 +9,115 @@ use lib.Dec.{eqb}
 use borrow.Author.Tests.{eqb-true, eq-eqb, ne_eqb}
 use Rattle.job.specs.declared.record.Job.{Job}
 use Rattle.job.specs.Sound.{SoundJob}
-use Rattle.job.specs.Window.{windowOf}
+use Rattle.job.specs.Window.{window_of}
 use Rattle.job.proofs.TestLaws.{both}
 use Rattle.place.specs.declared.setting.Setting.{Setting}
 use Rattle.place.specs.declared.record.Place.{Place}
 use Rattle.place.specs.Opening.{opened}
-use Rattle.place.specs.Place.{windowLeft, left_of, workedOf, windowEnds, movedOf}
+use Rattle.place.specs.Place.{window_left, left_of, worked_of, window_ends, moved_of}
 use Rattle.place.specs.Sound.{SoundPlace}
-use Rattle.place.proofs.CounterLaws.{Served, worked, turned_on, turned-period, turned-window}
+use Rattle.place.proofs.CounterLaws.{Served, worked, turned_on, turned_period, turned_window}
 
 -- place r is place q a slot later in the same window, with its service and tag when the slot was given, or not
 pub record Stays (setting : Setting) (q : Place) (chosen : Bool) (r : Place) : Type 0 where
-  pub same-job : r.job ≡ q.job
+  pub same_job : r.job ≡ q.job
   pub one_less : left_of q ≡ left_of r + 1
-  pub same-u : r.at.u ≡ (workedOf setting q chosen).at.u
-  pub same_s : r.at.s ≡ (workedOf setting q chosen).at.s
-  pub same_tag : r.at.tag ≡ (workedOf setting q chosen).at.tag
-  pub open-still : windowEnds q ≡ false
+  pub same_u : r.at.u ≡ (worked_of setting q chosen).at.u
+  pub same_s : r.at.s ≡ (worked_of setting q chosen).at.s
+  pub same_tag : r.at.tag ≡ (worked_of setting q chosen).at.tag
+  pub open_still : window_ends q ≡ false
 
 -- .. or at the opening of the next
 pub record Ends (q r : Place) : Type 0 where
   pub opens : r ≡ opened q.job
-  pub last-slot : left_of q ≡ 1
-  pub last-period : q.at.p ≡ q.job.k
-  pub over : windowEnds q ≡ true
+  pub last_slot : left_of q ≡ 1
+  pub last_period : q.at.p ≡ q.job.k
+  pub over : window_ends q ≡ true
 
 -- the slots left, on the numbers of a place: a period's last slot, where another follows or none
-next-period-left : (k p t e : ℕ) → e + 1 ≡ t → p < k → (k - p + 1) * t - e ≡ (k - (p + 1) + 1) * t - 0 + 1
-next-period-left k p t e last more =
+next_period_left : (k p t e : ℕ) → e + 1 ≡ t → p < k → (k - p + 1) * t - e ≡ (k - (p + 1) + 1) * t - 0 + 1
+next_period_left k p t e last more =
     let fewer : k - (p + 1) + 1 ≡ k - p = omega arith in
     omega (arith, ap (◌* t) fewer)
 
-last-left : (k p t e : ℕ) → e + 1 ≡ t → p ≡ k → (k - p + 1) * t - e ≡ 1
-last-left k p t e last final =
+last_left : (k p t e : ℕ) → e + 1 ≡ t → p ≡ k → (k - p + 1) * t - e ≡ 1
+last_left k p t e last final =
     let one : k - p + 1 ≡ 1 = omega arith in
     omega (arith, ap (◌* t) one)
 
-opening-left : (k t : ℕ) → 1 ≤ k → (k - 1 + 1) * t - 0 ≡ k * t
-opening-left k t low =
+opening_left : (k t : ℕ) → 1 ≤ k → (k - 1 + 1) * t - 0 ≡ k * t
+opening_left k t low =
     let all : k - 1 + 1 ≡ k = omega arith in
     omega (arith, ap (◌* t) all)
 
-pub opened-left : {j : Job} → SoundJob j → left_of (opened j) ≡ windowOf j
-unfolding left_of windowLeft
-opened-left {j} sound = opening-left j.k j.t sound.k.low
+pub opened_left : {j : Job} → SoundJob j → left_of (opened j) ≡ window_of j
+unfolding left_of window_left
+opened_left {j} sound = opening_left j.k j.t sound.k.low
 
-pub window-last : (q : Place) → windowEnds q ≡ true → left_of q ≡ 1
-unfolding windowEnds left_of windowLeft
-window-last q over =
+pub window_last : (q : Place) → window_ends q ≡ true → left_of q ≡ 1
+unfolding window_ends left_of window_left
+window_last q over =
     let tests = both (eqb (q.at.e + 1) q.job.t) (eqb q.at.p q.job.k) over in
-    last-left q.job.k q.at.p q.job.t q.at.e (eqb-true (q.at.e + 1) q.job.t tests.0)
+    last_left q.job.k q.at.p q.job.t q.at.e (eqb-true (q.at.e + 1) q.job.t tests.0)
     (eqb-true q.at.p q.job.k tests.1)
 
 module _ {setting : Setting} {q : Place} (sound : SoundPlace setting q) (chosen : Bool) where
   -- the place when its slot was given, or not
   abbrev given : Place
-  given = workedOf setting q chosen
+  given = worked_of setting q chosen
 
   served : Served setting q chosen given
   served = worked setting q chosen
 
-  t-given : given.job.t ≡ q.job.t
-  t-given = ap (λ (x : Job). x.t) served.same-job
+  t_given : given.job.t ≡ q.job.t
+  t_given = ap (λ (x : Job). x.t) served.same_job
 
-  k-given : given.job.k ≡ q.job.k
-  k-given = ap (λ (x : Job). x.k) served.same-job
+  k_given : given.job.k ≡ q.job.k
+  k_given = ap (λ (x : Job). x.k) served.same_job
 
   abbrev next : Place
-  next = (movedOf setting q chosen).place
+  next = (moved_of setting q chosen).place
 
   pub moved_view : Stays setting q chosen next ⊎ Ends q next
-  unfolding movedOf left_of windowLeft windowEnds
+  unfolding moved_of left_of window_left window_ends
   moved_view = go (dec_lt (q.at.e + 1) q.job.t) (dec_lt q.at.p q.job.k)
     where
       go : Dec (q.at.e + 1 < q.job.t) → Dec (q.at.p < q.job.k) → Stays setting q chosen next ⊎ Ends q next
       go (yes inside) d =
-          rw (turned_on given (omega (arith, served.same-e, t-given)))
+          rw (turned_on given (omega (arith, served.same_e, t_given)))
           (inl
           (record {
-            same-job = served.same-job;
-            one_less = rw (served.same-job, served.same-e, served.same-p) (omega (arith, sound.period.high));
-            same-u = refl;
+            same_job = served.same_job;
+            one_less = rw (served.same_job, served.same_e, served.same_p) (omega (arith, sound.period.high));
+            same_u = refl;
             same_s = refl;
             same_tag = refl;
-            open-still = rw (ne_eqb (q.at.e + 1) q.job.t (omega arith));
+            open_still = rw (ne_eqb (q.at.e + 1) q.job.t (omega arith));
           }))
       go (no ends) (yes more) =
-          let last : q.at.e + 1 ≡ q.job.t = omega (arith, sound.e-high) in
+          let last : q.at.e + 1 ≡ q.job.t = omega (arith, sound.e_high) in
           rw
-          (turned-period given (omega (arith, served.same-e, t-given)) (omega (arith, served.same-p, k-given)))
+          (turned_period given (omega (arith, served.same_e, t_given)) (omega (arith, served.same_p, k_given)))
           (inl
           (record {
-            same-job = served.same-job;
+            same_job = served.same_job;
             one_less =
-                rw (served.same-job, served.same-p)
-                (next-period-left q.job.k q.at.p q.job.t q.at.e last more);
-            same-u = refl;
+                rw (served.same_job, served.same_p)
+                (next_period_left q.job.k q.at.p q.job.t q.at.e last more);
+            same_u = refl;
             same_s = refl;
             same_tag = refl;
-            open-still = rw (eq-eqb (q.at.e + 1) q.job.t last, ne_eqb q.at.p q.job.k (omega arith));
+            open_still = rw (eq-eqb (q.at.e + 1) q.job.t last, ne_eqb q.at.p q.job.k (omega arith));
           }))
       go (no ends) (no more) =
-          let last : q.at.e + 1 ≡ q.job.t = omega (arith, sound.e-high) in
+          let last : q.at.e + 1 ≡ q.job.t = omega (arith, sound.e_high) in
           let final : q.at.p ≡ q.job.k = omega (arith, sound.period.high) in
           rw
-          (turned-window given (omega (arith, served.same-e, t-given)) (omega (arith, served.same-p, k-given)))
+          (turned_window given (omega (arith, served.same_e, t_given)) (omega (arith, served.same_p, k_given)))
           (inr
           (record {
-            opens = ap opened served.same-job;
-            last-slot = last-left q.job.k q.at.p q.job.t q.at.e last final;
-            last-period = final;
+            opens = ap opened served.same_job;
+            last_slot = last_left q.job.k q.at.p q.job.t q.at.e last final;
+            last_period = final;
             over = rw (eq-eqb (q.at.e + 1) q.job.t last, eq-eqb q.at.p q.job.k final);
           }))

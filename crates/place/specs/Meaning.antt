@@ -24,8 +24,8 @@ abbrev pub OpenedFirst : Type 0
 OpenedFirst = (job : Job) (r : Place) → OpenedPromise job r → r ≡ unserved job 1
 
 -- 'places past the last job are all zero'
-abbrev pub placeOfZeros : Place
-placeOfZeros = unserved (record { c = 0; t = 0; m = 0; k = 0 }) 0
+abbrev pub place_of_zeros : Place
+place_of_zeros = unserved (record { c = 0; t = 0; m = 0; k = 0 }) 0
 
 abbrev pub BlankZeros : Type 0
-BlankZeros = (r : Place) → BlankPromise r → r ≡ placeOfZeros
+BlankZeros = (r : Place) → BlankPromise r → r ≡ place_of_zeros

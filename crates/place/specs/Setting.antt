@@ -4,32 +4,32 @@ use Rattle.std.specs.Prelude.{ℕ, Bool, false, ◌&&◌, leb, eqb}
 use Rattle.job.specs.Limit.{relaxed, original}
 use Rattle.place.specs.declared.setting.Setting.{Setting}
 
-abbrev pub orderV : ℕ
-orderV = 0
+abbrev pub order_v : ℕ
+order_v = 0
 
-abbrev pub orderW : ℕ
-orderW = 1
+abbrev pub order_w : ℕ
+order_w = 1
 
 -- a setting of an order and a model, with spare off; and one with another order, another model, or spare on or off
 abbrev pub setting_of : ℕ → ℕ → Setting
 setting_of order model = record { order = order; model = model; spare = false }
 
-abbrev pub withOrder : Setting → ℕ → Setting
-withOrder s order = record { order = order; model = s.model; spare = s.spare }
+abbrev pub with_order : Setting → ℕ → Setting
+with_order s order = record { order = order; model = s.model; spare = s.spare }
 
-abbrev pub withModel : Setting → ℕ → Setting
-withModel s model = record { order = s.order; model = model; spare = s.spare }
+abbrev pub with_model : Setting → ℕ → Setting
+with_model s model = record { order = s.order; model = model; spare = s.spare }
 
-abbrev pub withSpare : Setting → Bool → Setting
-withSpare s spare = record { order = s.order; model = s.model; spare = spare }
+abbrev pub with_spare : Setting → Bool → Setting
+with_spare s spare = record { order = s.order; model = s.model; spare = spare }
 
 -- '15: order or model number not 0 or 1'
-abbrev pub settingAllowed : Setting → Bool
-settingAllowed s = leb s.order orderW && leb s.model original
+abbrev pub setting_allowed : Setting → Bool
+setting_allowed s = leb s.order order_w && leb s.model original
 
 -- how service is kept: by units, u ('Relaxed model'), or by instances, s and v ('Original model')
-abbrev pub byUnits : Setting → Bool
-byUnits s = eqb s.model relaxed
+abbrev pub by_units : Setting → Bool
+by_units s = eqb s.model relaxed
 
-abbrev pub inOrderV : Setting → Bool
-inOrderV s = eqb s.order orderV
+abbrev pub in_order_v : Setting → Bool
+in_order_v s = eqb s.order order_v

@@ -1,7 +1,7 @@
 // A job in a run, and how far its window has come.
 ghost use Rattle.place.specs.Promise.{BlankPromise, OpenedPromise};
 ghost use Rattle.std.specs.Prelude.{◌≡◌};
-ghost use Rattle.place.specs.Opening.{unservedIn};
+ghost use Rattle.place.specs.Opening.{unserved_in};
 
 use job::Job;
 
@@ -26,7 +26,7 @@ pub struct Place {
 impl Place {
     // A job in period p with no slot gone, no service and no tag.
     fn unserved_in(job: Job, p: u32) -> Place
-        ensures { result ≡ unservedIn job p }
+        ensures { result ≡ unserved_in job p }
     {
         Place {
             job,

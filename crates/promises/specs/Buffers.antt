@@ -24,7 +24,7 @@ part bytes offset n = take n (drop offset bytes)
 pub record WriteKeeps (l : JobList) (setting : Setting) (slots : List Slot) (offset n : ℕ) (after : List ℕ) (next : State) : Type 0 where
   pub long : length (part after offset n) ≡ n
   pub follows : Follows l setting (bytes_of slots ++ part after offset n)
-  pub state-is : StateTold l setting (bytes_of slots ++ part after offset n) next
+  pub state_is : StateTold l setting (bytes_of slots ++ part after offset n) next
 
 abbrev pub WriteFollows : Type 0
 WriteFollows =

@@ -11,7 +11,7 @@ use Rattle.run.specs.declared.state.State.{State}
 use Rattle.run.specs.declared.answer.Slot.{Slot}
 use Rattle.run.specs.Calls.{Run}
 use Rattle.rules.specs.Meaning.{no_slot}
-use Rattle.lawful.specs.DemandThree.{windowOrder}
+use Rattle.lawful.specs.DemandThree.{window_order}
 use Rattle.promises.specs.Cases.{job, listed}
 
 -- the list, and its six orders: however ties are broken by the job's number, it is one of these
@@ -35,24 +35,24 @@ orders =
     ∷ []
 
 -- order 0 is V; model 0 is relaxed, 1 is original
-abbrev pub virtualOrder : ℕ → Bool → Setting
-virtualOrder model spare = record { order = 0; model = model; spare = spare }
+abbrev pub virtual_order : ℕ → Bool → Setting
+virtual_order model spare = record { order = 0; model = model; spare = spare }
 
 -- the last slot of the first window of one short job, and of the second of the other
-abbrev pub lateSlot : ℕ
-lateSlot = 9
+abbrev pub late_slot : ℕ
+late_slot = 9
 
 -- of whatever `verdict`, `start` and `step` answer by their promises; there are such runs up to the clock's limit (`RunExists` of rules)
 pub record Refutes (jobs : List Job) : Type 0 where
   -- the load is at most the cycle, as Theorem 3 asks
   pub admitted : VerdictPromise (listed jobs) relaxed (Admitted 40 39)
   -- in order V, in either model, spare on or off, some window ends short in that slot
-  pub short-in-v :
-      (model : ℕ) → model ≤ 1 → (spare : Bool) (slots : List Slot) (state : State) → Run (listed jobs) (virtualOrder model spare) slots state
-      → lateSlot < length slots → (get_or slots lateSlot no_slot).shorts ≡ 0 → ⊥
+  pub short_in_v :
+      (model : ℕ) → model ≤ 1 → (spare : Bool) (slots : List Slot) (state : State) → Run (listed jobs) (virtual_order model spare) slots state
+      → late_slot < length slots → (get_or slots late_slot no_slot).shorts ≡ 0 → ⊥
   -- in order W none ever does: demand 3
-  pub never-in-w :
-      (spare : Bool) (slots : List Slot) (state : State) → Run (listed jobs) (windowOrder spare) slots state → (n : ℕ) → n < length slots
+  pub never_in_w :
+      (spare : Bool) (slots : List Slot) (state : State) → Run (listed jobs) (window_order spare) slots state → (n : ℕ) → n < length slots
       → (get_or slots n no_slot).shorts ≡ 0
 
 abbrev pub TheoremThreeFails : Type 0

@@ -35,9 +35,9 @@ pub record JobUnique : Type 0 where
   pub none : Unique NonePromise
   pub check : (at : ℕ) (j : Job) → Unique (JobCheckPromise at j)
   pub empty : (count : ℕ) → Unique (EmptyPromise count)
-  pub list-check : (l : JobList) → Unique (ListCheckPromise l)
-  pub checked-number : (c : Checked) → Unique (CheckedNumberPromise c)
-  pub refusal-number : (r : Refusal) → Unique (RefusalNumberPromise r)
+  pub list_check : (l : JobList) → Unique (ListCheckPromise l)
+  pub checked_number : (c : Checked) → Unique (CheckedNumberPromise c)
+  pub refusal_number : (r : Refusal) → Unique (RefusalNumberPromise r)
 
 -- `Admission`, `common_divisor`, `verdict`, `admit` on a lent slice of job structs, `admit_first`
 pub record AdmissionUnique : Type 0 where
@@ -47,7 +47,7 @@ pub record AdmissionUnique : Type 0 where
   pub divisor : (a b : ℕ) → Unique (DivisorPromise a b)
   pub verdict : (l : JobList) (model : ℕ) → Unique (VerdictPromise l model)
   pub admit : (jobs : List Job) (model : ℕ) → Unique (AdmitPromise jobs model)
-  pub admit-first : (jobs : List Job) (n model : ℕ) → Unique (AdmitFirstPromise jobs n model)
+  pub admit_first : (jobs : List Job) (n model : ℕ) → Unique (AdmitFirstPromise jobs n model)
 
 -- `Setting`, `Place`, `State`, `start`, `step`, `shortfall`
 pub record RunUnique : Type 0 where
@@ -57,7 +57,7 @@ pub record RunUnique : Type 0 where
   pub opened : (j : Job) → Unique (OpenedPromise j)
   pub zeros : Unique ZerosPromise
   pub fresh : (l : JobList) (s : Setting) → Unique (FreshPromise l s)
-  pub in-range : (s : State) → Unique (InRangePromise s)
+  pub in_range : (s : State) → Unique (InRangePromise s)
   pub start : (l : JobList) (s : Setting) → Unique (StartPromise l s)
   pub step : (s : State) → Unique (StepPromise s)
   pub shortfall : (l : JobList) (s : Setting) → Unique (ShortfallPromise l s)
@@ -65,21 +65,21 @@ pub record RunUnique : Type 0 where
 -- `write`, the C entries, `fill` and `below`, `Sheet`, `sheet::read`, the seven lines
 pub record BytesUnique : Type 0 where
   pub write : (s : State) (before : List ℕ) (offset n : ℕ) → BothUnique (WritePromise s before offset n)
-  pub admit-entry : (jobs : List ℕ) (model : ℕ) → Unique (AdmitEntryPromise jobs model)
+  pub admit_entry : (jobs : List ℕ) (model : ℕ) → Unique (AdmitEntryPromise jobs model)
   pub fill :
       (jobs : List ℕ) (setting : Setting) (before : List ℕ) (offset n : ℕ) → BothUnique (FillPromise jobs setting before offset n)
-  pub fill-entry :
+  pub fill_entry :
       (jobs : List ℕ) (order model : ℕ) (before : List ℕ) (offset n : ℕ)
       → BothUnique (FillEntryPromise jobs order model before offset n)
   pub below : (jobs : List ℕ) (setting : Setting) (before : List ℕ) → BothUnique (BelowPromise jobs setting before)
-  pub below-entry :
+  pub below_entry :
       (jobs : List ℕ) (order model spare : ℕ) (before : List ℕ) → BothUnique (BelowEntryPromise jobs order model spare before)
-  pub blank-sheet : Unique BlankSheetPromise
+  pub blank_sheet_lem : Unique BlankSheetPromise
   pub read : (bytes : List ℕ) → Unique (ReadPromise bytes)
-  pub slot-line : (number : ℕ) (slot : Slot) (before : List ℕ) → BothUnique (SlotLinePromise number slot before)
-  pub refusal-line : (r : Refusal) (before : List ℕ) → BothUnique (RefusalLinePromise r before)
-  pub answer-line : (number : ℕ) (a : StepAnswer) (before : List ℕ) → BothUnique (AnswerLinePromise number a before)
-  pub admission-line : (a : Admission) (before : List ℕ) → BothUnique (AdmissionLinePromise a before)
-  pub totals-line : (t : Totals) (before : List ℕ) → BothUnique (TotalsLinePromise t before)
-  pub job-line : (job : ℕ) (below : Below) (before : List ℕ) → BothUnique (JobLinePromise job below before)
-  pub fallen-line : (fallen jobs : ℕ) (before : List ℕ) → BothUnique (FallenLinePromise fallen jobs before)
+  pub slot_line : (number : ℕ) (slot : Slot) (before : List ℕ) → BothUnique (SlotLinePromise number slot before)
+  pub refusal_line : (r : Refusal) (before : List ℕ) → BothUnique (RefusalLinePromise r before)
+  pub answer_line : (number : ℕ) (a : StepAnswer) (before : List ℕ) → BothUnique (AnswerLinePromise number a before)
+  pub admission_line : (a : Admission) (before : List ℕ) → BothUnique (AdmissionLinePromise a before)
+  pub totals_line : (t : Totals) (before : List ℕ) → BothUnique (TotalsLinePromise t before)
+  pub job_line_lem : (job : ℕ) (below : Below) (before : List ℕ) → BothUnique (JobLinePromise job below before)
+  pub fallen_line : (fallen jobs : ℕ) (before : List ℕ) → BothUnique (FallenLinePromise fallen jobs before)

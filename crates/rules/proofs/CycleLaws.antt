@@ -8,14 +8,14 @@ use native.Mathlib.Omega.{arith}
 use lib.Arith.{digits_lt, digits_div}
 use lib.ListN.{length, drop, drop_of_length-le}
 use lib.Seq.{drop-append-le}
-use Rattle.place.proofs.CycleLaws.{cycle-goes-on, cycle-ends}
+use Rattle.place.proofs.CycleLaws.{cycle_goes_on, cycle_ends}
 
 -- the bytes since the cycle opened; where it opens there are none yet
 module _ (m n : ℕ) (bytes : List ℕ) (long : length bytes ≡ n) where
-  pub since-goes-on :
+  pub since_goes_on :
       (b : ℕ) → n % m + 1 < m → drop (suc n - suc n % m) (bytes ++ b ∷ []) ≡ drop (n - n % m) bytes ++ b ∷ []
-  since-goes-on b h =
-      let same : suc n - suc n % m ≡ n - n % m = omega (arith, cycle-goes-on m n h) in
+  since_goes_on b h =
+      let same : suc n - suc n % m ≡ n - n % m = omega (arith, cycle_goes_on m n h) in
       rw same (drop-append-le (n - n % m) bytes (b ∷ []) (omega arith))
 
   pub since_none : n % m ≡ 0 → drop (n - n % m) bytes ≡ []
@@ -30,17 +30,17 @@ begun t k n = n % (k * t) / t + 1
 -- slot n, by what ends with it
 pub data Tick (t k n : ℕ) : Type 0 where
   nothing_ends : n % t + 1 < t → n % (k * t) + 1 < k * t → begun t k (suc n) ≡ begun t k n → Tick t k n
-  period-ends :
+  period_ends :
       n % t + 1 ≡ t → n % (k * t) + 1 < k * t → begun t k n < k → begun t k (suc n) ≡ begun t k n + 1 → Tick t k n
-  window-ends : n % t + 1 ≡ t → n % (k * t) + 1 ≡ k * t → begun t k n ≡ k → begun t k (suc n) ≡ 1 → Tick t k n
+  window_ends_lem : n % t + 1 ≡ t → n % (k * t) + 1 ≡ k * t → begun t k n ≡ k → begun t k (suc n) ≡ 1 → Tick t k n
 
 -- the open window is the whole periods before the open one, and what has gone of that
-pub window-split : (t k n : ℕ) → n % (k * t) ≡ n % (k * t) / t * t + n % t
-window-split t k n = omega (arith, div-add-mod' (n % (k * t)) t, mod-mod_of_dvd t n (dvd-mul_left t k))
+pub window_split : (t k n : ℕ) → n % (k * t) ≡ n % (k * t) / t * t + n % t
+window_split t k n = omega (arith, div-add-mod' (n % (k * t)) t, mod-mod_of_dvd t n (dvd-mul_left t k))
 
 module _ (t k n : ℕ) (t-low : 1 ≤ t) (k-low : 1 ≤ k) where
-  pub begun-high : begun t k n ≤ k
-  begun-high =
+  pub begun_high : begun t k n ≤ k
+  begun_high =
       let some : 0 < k * t = mul-pos k-low t-low in
       let high : n % (k * t) / t < k = (div-lt_iff_lt-mul t-low).1 (mod-lt n some) in
       omega arith
@@ -53,20 +53,20 @@ module _ (t k n : ℕ) (t-low : 1 ≤ t) (k-low : 1 ≤ k) where
 
       go : Dec (n % t + 1 < t) → Dec (begun t k n < k) → Tick t k n
       go (yes inside) d =
-          let next : n % (k * t) + 1 ≡ past * t + (n % t + 1) = omega (arith, window-split t k n) in
-          let more : past * t + (n % t + 1) < k * t = digits_lt (omega (arith, begun-high)) inside in
+          let next : n % (k * t) + 1 ≡ past * t + (n % t + 1) = omega (arith, window_split t k n) in
+          let more : past * t + (n % t + 1) < k * t = digits_lt (omega (arith, begun_high)) inside in
           let stays : n % (k * t) + 1 < k * t = omega arith in
           nothing_ends inside stays
-          (ap (◌+ 1) (ap (◌/ t) (cycle-goes-on (k * t) n stays ∙ next) ∙ digits_div past inside))
+          (ap (◌+ 1) (ap (◌/ t) (cycle_goes_on (k * t) n stays ∙ next) ∙ digits_div past inside))
       go (no ends) (yes more) =
           let last : n % t + 1 ≡ t = omega (arith, mod-lt n t-low) in
-          let next : n % (k * t) + 1 ≡ suc past * t = omega (arith, window-split t k n, suc-mul past t) in
+          let next : n % (k * t) + 1 ≡ suc past * t = omega (arith, window_split t k n, suc-mul past t) in
           let fewer : suc past * t + 0 < k * t = digits_lt (omega arith) t-low in
           let stays : n % (k * t) + 1 < k * t = omega arith in
-          period-ends last stays more
-          (ap (◌+ 1) (ap (◌/ t) (cycle-goes-on (k * t) n stays ∙ next) ∙ mul-div_cancel (suc past) t-low ∙ omega arith))
+          period_ends last stays more
+          (ap (◌+ 1) (ap (◌/ t) (cycle_goes_on (k * t) n stays ∙ next) ∙ mul-div_cancel (suc past) t-low ∙ omega arith))
       go (no ends) (no more) =
           let last : n % t + 1 ≡ t = omega (arith, mod-lt n t-low) in
-          let all : suc past ≡ k = omega (arith, begun-high) in
-          let whole : n % (k * t) + 1 ≡ k * t = omega (arith, window-split t k n, suc-mul past t, ap (◌* t) all) in
-          window-ends last whole (omega arith) (ap (◌+ 1) (ap (◌/ t) (cycle-ends (k * t) n whole) ∙ zero-div t))
+          let all : suc past ≡ k = omega (arith, begun_high) in
+          let whole : n % (k * t) + 1 ≡ k * t = omega (arith, window_split t k n, suc-mul past t, ap (◌* t) all) in
+          window_ends_lem last whole (omega arith) (ap (◌+ 1) (ap (◌/ t) (cycle_ends (k * t) n whole) ∙ zero-div t))

@@ -14,22 +14,22 @@ use Rattle.job.specs.declared.list.JobList.{JobList}
 use Rattle.job.specs.Sound.{SoundList}
 use Rattle.place.specs.declared.setting.Setting.{Setting}
 use Rattle.place.specs.declared.record.Place.{Place}
-use Rattle.place.specs.Place.{finishedOf, finishesOf, tagsOf, firstTagged, workedOf, short_of, turnedOf, movedOf}
+use Rattle.place.specs.Place.{finished_of, finishes_of, tags_of, first_tagged, worked_of, short_of, turned_of, moved_of}
 use Rattle.place.specs.Sound.{SoundPlace}
-use Rattle.place.proofs.CycleLaws.{cycle-goes-on, cycle-ends}
-use Rattle.place.proofs.TagLaws.{Untagged, finished-worked, short-tagged}
-use Rattle.place.proofs.CounterLaws.{Served, worked, worked-tag, worked-ends, turned_on, turned-period, turned-window}
+use Rattle.place.proofs.CycleLaws.{cycle_goes_on, cycle_ends}
+use Rattle.place.proofs.TagLaws.{Untagged, finished_worked, short_tagged}
+use Rattle.place.proofs.CounterLaws.{Served, worked, worked_tag, worked_ends, turned_on, turned_period, turned_window}
 use Rattle.run.specs.declared.state.State.{State}
-use Rattle.run.specs.State.{placeAt}
+use Rattle.run.specs.State.{place_at}
 use Rattle.run.specs.Choice.{chosen_of}
-use Rattle.run.specs.Slot.{tagsAt, shortsAt, turn_of}
+use Rattle.run.specs.Slot.{tags_at, shorts_at, turn_of}
 use Rattle.run.proofs.HereLaws.{at}
-use Rattle.run.proofs.TurnLaws.{nextByte, byte_at, byte-fair, turn-place}
-use Rattle.run.specs.SlotMeaning.{howMany}
-use Rattle.rules.specs.Rules.{windowStart, job_of, finishes, tags, tagged, firstTags, endsShort}
-use Rattle.rules.proofs.CycleLaws.{Tick, nothing_ends, period-ends, window-ends, tick}
-use Rattle.rules.proofs.HistoryLaws.{PlaceHistory, Worked, history-worked}
-use Rattle.rules.proofs.PlaceLaws.{finished-is, owed-is, finished-told, overdue-told, ends-told}
+use Rattle.run.proofs.TurnLaws.{next_byte, byte_at, byte_fair, turn_place}
+use Rattle.run.specs.SlotMeaning.{how_many}
+use Rattle.rules.specs.Rules.{window_start, job_of, finishes, tags, tagged, first_tags, ends_short}
+use Rattle.rules.proofs.CycleLaws.{Tick, nothing_ends, period_ends, window_ends_lem, tick}
+use Rattle.rules.proofs.HistoryLaws.{PlaceHistory, Worked, history_worked}
+use Rattle.rules.proofs.PlaceLaws.{finished_is, owed_is, finished_told, overdue_told, ends_told}
 use Rattle.rules.proofs.ChoiceLaws.{Told, here}
 
 -- a count of one number more is above 0 if it was, or if that number counts
@@ -38,14 +38,14 @@ some_more true h = lt-ltb 0 (h + 1) (omega arith)
 some_more false h = refl
 
 -- one more is more
-more-is : (b : Bool) (h : ℕ) → b ≡ ltb h (cond b (h + 1) h)
-more-is true h = sym (lt-ltb h (h + 1) (omega arith))
-more-is false h = sym (le-ltb h h (le_refl h))
+more_is : (b : Bool) (h : ℕ) → b ≡ ltb h (cond b (h + 1) h)
+more_is true h = sym (lt-ltb h (h + 1) (omega arith))
+more_is false h = sym (le-ltb h h (le_refl h))
 
 -- a state before slot n of the bytes, whose own byte is the slot's choice
 pub record Before (l : JobList) (bytes : List ℕ) (n : ℕ) (s : State) : Type 0 where
   pub told : Told l n (take n bytes) s
-  pub more : take (n + 1) bytes ≡ take n bytes ++ nextByte s ∷ []
+  pub more : take (n + 1) bytes ≡ take n bytes ++ next_byte s ∷ []
   pub tag : (i : ℕ) → i < l.count → (at s i).at.tag ≡ tagged l s.setting bytes n i
 
 module _ (l : JobList) (jobs : SoundList l) (bytes : List ℕ) (n : ℕ) (s : State) (before : Before l bytes n s) (i : ℕ) (listed : i < l.count) where
@@ -68,97 +68,97 @@ module _ (l : JobList) (jobs : SoundList l) (bytes : List ℕ) (n : ℕ) (s : St
   history = before.told.places i listed
 
   place : SoundPlace setting q
-  place = before.told.jobs-sound i listed
+  place = before.told.jobs_sound i listed
 
-  byte-is : eqb (nextByte s) i ≡ chosen
-  byte-is = byte_at s before.told.sound i inside
+  byte_is : eqb (next_byte s) i ≡ chosen
+  byte_is = byte_at s before.told.sound i inside
 
   -- the place when its slot was given, or not
   abbrev given : Place
-  given = workedOf setting q chosen
+  given = worked_of setting q chosen
 
-  given-told : Worked setting job i n (take (n + 1) bytes) given
-  given-told =
-      subst (λ (c : Bool). Worked setting job i n (take (n + 1) bytes) (workedOf setting q c)) byte-is
+  given_told : Worked setting job i n (take (n + 1) bytes) given
+  given_told =
+      subst (λ (c : Bool). Worked setting job i n (take (n + 1) bytes) (worked_of setting q c)) byte_is
       (rw before.more
-      (history-worked setting job i n (take n bytes) q history place before.told.long (nextByte s) (byte-fair s before.told.sound i inside)))
+      (history_worked setting job i n (take n bytes) q history place before.told.long (next_byte s) (byte_fair s before.told.sound i inside)))
 
-  finishes-here : (chosen && finishesOf setting q) ≡ finishes l setting bytes n i
-  finishes-here =
-      more-is (chosen && finishesOf setting q) (finishedOf setting q)
-      ∙ ap₂ ltb (finished-told setting job i n (take n bytes) q history place (jobs.jobs i listed) before.told.long)
-      (sym (finished-worked place chosen) ∙ finished-is setting job (jobs.jobs i listed) i n (take (n + 1) bytes) given given-told)
+  finishes_here : (chosen && finishes_of setting q) ≡ finishes l setting bytes n i
+  finishes_here =
+      more_is (chosen && finishes_of setting q) (finished_of setting q)
+      ∙ ap₂ ltb (finished_told setting job i n (take n bytes) q history place (jobs.jobs i listed) before.told.long)
+      (sym (finished_worked place chosen) ∙ finished_is setting job (jobs.jobs i listed) i n (take (n + 1) bytes) given given_told)
 
-  tags-here : tagsOf setting q chosen ≡ tags l setting bytes n i
-  unfolding tags tagsOf
-  tags-here =
+  tags_here : tags_of setting q chosen ≡ tags l setting bytes n i
+  unfolding tags tags_of
+  tags_here =
       ap₂ (λ (late done : Bool). late && not done)
-      (overdue-told setting job i n (take n bytes) q history place (jobs.jobs i listed) before.told.long) finishes-here
+      (overdue_told setting job i n (take n bytes) q history place (jobs.jobs i listed) before.told.long) finishes_here
 
-  pub first-here : tagsAt setting s.places (chosen_of s) i ≡ firstTags l setting bytes n i
-  unfolding movedOf firstTagged
-  first-here = ap₂ (λ (a b : Bool). a && not b) tags-here (before.tag i listed)
+  pub first_here : tags_at setting s.places (chosen_of s) i ≡ first_tags l setting bytes n i
+  unfolding moved_of first_tagged
+  first_here = ap₂ (λ (a b : Bool). a && not b) tags_here (before.tag i listed)
 
-  pub short-here : shortsAt setting s.places (chosen_of s) i ≡ endsShort l setting bytes n i
-  unfolding movedOf short_of endsShort
-  short-here =
+  pub short_here : shorts_at setting s.places (chosen_of s) i ≡ ends_short l setting bytes n i
+  unfolding moved_of short_of ends_short
+  short_here =
       ap₂ (λ (a : Bool) (b : ℕ). a && ltb 0 b)
-      (worked-ends setting q chosen ∙ ends-told setting job i n (take n bytes) q history place (jobs.jobs i listed) before.told.long)
-      (owed-is setting job (jobs.jobs i listed) i n (take (n + 1) bytes) given given-told)
+      (worked_ends setting q chosen ∙ ends_told setting job i n (take n bytes) q history place (jobs.jobs i listed) before.told.long)
+      (owed_is setting job (jobs.jobs i listed) i n (take (n + 1) bytes) given given_told)
 
   -- the tag one slot on
   abbrev window : ℕ
   window = job.k * job.t
 
-  goes_on : n % window + 1 < window → tagged l setting bytes (suc n) i ≡ (tags l setting bytes n i || q.at.tag)
-  unfolding tagged howMany
-  goes_on stays =
-      let gone : suc n % window ≡ n % window + 1 = cycle-goes-on window n stays in
-      let same : windowStart job (suc n) ≡ windowStart job n = omega arith in
-      let now : windowStart job n + n % window ≡ n = omega (arith, mod-le n window) in
+  goes_on_lem : n % window + 1 < window → tagged l setting bytes (suc n) i ≡ (tags l setting bytes n i || q.at.tag)
+  unfolding tagged how_many
+  goes_on_lem stays =
+      let gone : suc n % window ≡ n % window + 1 = cycle_goes_on window n stays in
+      let same : window_start job (suc n) ≡ window_start job n = omega arith in
+      let now : window_start job n + n % window ≡ n = omega (arith, mod-le n window) in
       rw (same, gone, add-one (n % window), now) (some_more (tags l setting bytes n i) _ ∙ ap (tags l setting bytes n i ||◌) (sym (before.tag i listed)))
 
   ends : n % window + 1 ≡ window → tagged l setting bytes (suc n) i ≡ false
-  unfolding tagged howMany
-  ends closes = rw (cycle-ends window n closes)
+  unfolding tagged how_many
+  ends closes = rw (cycle_ends window n closes)
 
-  given-tag : given.at.tag ≡ (tags l setting bytes n i || q.at.tag)
-  given-tag = worked-tag setting q chosen ∙ ap (◌|| q.at.tag) tags-here
+  given_tag : given.at.tag ≡ (tags l setting bytes n i || q.at.tag)
+  given_tag = worked_tag setting q chosen ∙ ap (◌|| q.at.tag) tags_here
 
   -- 'A window that ends untagged is not short', by the rules
-  pub short-tags :
-      Untagged setting q → endsShort l setting bytes n i ≡ true → (tags l setting bytes n i || tagged l setting bytes n i) ≡ true
-  unfolding movedOf
-  short-tags fits short =
-      ap (tags l setting bytes n i ||◌) (sym (before.tag i listed)) ∙ sym given-tag ∙ short-tagged place chosen fits (short-here ∙ short)
+  pub short_tags :
+      Untagged setting q → ends_short l setting bytes n i ≡ true → (tags l setting bytes n i || tagged l setting bytes n i) ≡ true
+  unfolding moved_of
+  short_tags fits short =
+      ap (tags l setting bytes n i ||◌) (sym (before.tag i listed)) ∙ sym given_tag ∙ short_tagged place chosen fits (short_here ∙ short)
 
-  pub tag-next : (placeAt (turn_of s).state.places i).at.tag ≡ tagged l setting bytes (suc n) i
-  unfolding movedOf
-  tag-next =
-      ap (λ (r : Place). r.at.tag) (turn-place s before.told.sound i inside ∙ ap (λ (c : Bool). (movedOf setting q c).place) byte-is)
+  pub tag_next : (place_at (turn_of s).state.places i).at.tag ≡ tagged l setting bytes (suc n) i
+  unfolding moved_of
+  tag_next =
+      ap (λ (r : Place). r.at.tag) (turn_place s before.told.sound i inside ∙ ap (λ (c : Bool). (moved_of setting q c).place) byte_is)
       ∙ go (tick job.t job.k n (jobs.jobs i listed).t.low (jobs.jobs i listed).k.low)
     where
       served : Served setting q chosen given
       served = worked setting q chosen
 
-      t-given : given.job.t ≡ job.t
-      t-given = ap (λ (x : Job). x.t) (served.same-job ∙ history.same-job)
+      t_given : given.job.t ≡ job.t
+      t_given = ap (λ (x : Job). x.t) (served.same_job ∙ history.same_job)
 
-      k-given : given.job.k ≡ job.k
-      k-given = ap (λ (x : Job). x.k) (served.same-job ∙ history.same-job)
+      k_given : given.job.k ≡ job.k
+      k_given = ap (λ (x : Job). x.k) (served.same_job ∙ history.same_job)
 
-      e-given : given.at.e ≡ n % job.t
-      e-given = served.same-e ∙ history.e-is
+      e_given : given.at.e ≡ n % job.t
+      e_given = served.same_e ∙ history.e_is
 
-      go : Tick job.t job.k n → (turnedOf given).at.tag ≡ tagged l setting bytes (suc n) i
+      go : Tick job.t job.k n → (turned_of given).at.tag ≡ tagged l setting bytes (suc n) i
       go (nothing_ends within stays same) =
-          ap (λ (r : Place). r.at.tag) (turned_on given (omega (arith, e-given, t-given))) ∙ given-tag ∙ sym (goes_on stays)
-      go (period-ends last stays below one_more) =
+          ap (λ (r : Place). r.at.tag) (turned_on given (omega (arith, e_given, t_given))) ∙ given_tag ∙ sym (goes_on_lem stays)
+      go (period_ends last stays below one_more) =
           ap (λ (r : Place). r.at.tag)
-          (turned-period given (omega (arith, e-given, t-given)) (omega (arith, served.same-p, history.p-is, k-given)))
-          ∙ given-tag
-          ∙ sym (goes_on stays)
-      go (window-ends last closes all first) =
+          (turned_period given (omega (arith, e_given, t_given)) (omega (arith, served.same_p, history.p_is, k_given)))
+          ∙ given_tag
+          ∙ sym (goes_on_lem stays)
+      go (window_ends_lem last closes all first) =
           ap (λ (r : Place). r.at.tag)
-          (turned-window given (omega (arith, e-given, t-given)) (omega (arith, served.same-p, history.p-is, k-given)))
+          (turned_window given (omega (arith, e_given, t_given)) (omega (arith, served.same_p, history.p_is, k_given)))
           ∙ sym (ends closes)

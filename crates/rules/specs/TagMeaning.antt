@@ -12,7 +12,7 @@ use Rattle.run.specs.declared.answer.StepAnswer.TheVariants.{Done}
 use Rattle.run.specs.Promise.{StepPromise}
 use Rattle.run.specs.Calls.{Run}
 use Rattle.run.specs.SlotMeaning.{given}
-use Rattle.rules.specs.Rules.{windowStart, job_of}
+use Rattle.rules.specs.Rules.{window_start, job_of}
 use Rattle.rules.specs.Meaning.{no_slot}
 
 -- job j is in a set of a slot's answer: bit j of the mask
@@ -22,7 +22,7 @@ Member j set = set / 2 ^ j % 2 ≡ 1
 -- one of the slots from the first to the last answers job j among its first tags
 pub record TagTold (slots : List Slot) (j first last : ℕ) : Type 0 where
   pub slot : ℕ
-  pub not-before : first ≤ slot
+  pub not_before : first ≤ slot
   pub not_after : slot ≤ last
   pub told : Member j (get_or slots slot no_slot).tags
 
@@ -32,7 +32,7 @@ abbrev pub ShortsTold : Type 0
 ShortsTold =
     (l : JobList) (setting : Setting) → SoundList l → Allowed setting → (slots : List Slot) (state : State)
     → Run l setting slots state → (n j : ℕ) → n < length slots → Member j (get_or slots n no_slot).shorts
-    → TagTold slots j (windowStart (job_of l j) n) n
+    → TagTold slots j (window_start (job_of l j) n) n
 
 -- and its place has the tag when those of the slot are in, before the window's end clears it
 abbrev pub ShortsTagged : Type 0

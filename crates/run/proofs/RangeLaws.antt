@@ -11,132 +11,132 @@ use lib.Dec.{leb, ltb, eqb}
 use lib.ListN.{length, get_or-eq_default}
 use borrow.Author.Count.{below_more}
 use borrow.Author.Tests.{ltb-true, ltb-false, leb-true, eqb-true, lt-ltb, le-ltb, le-leb, eq-eqb}
-use Rattle.job.specs.Limit.{countMost}
+use Rattle.job.specs.Limit.{count_most}
 use Rattle.job.specs.Check.{allowed}
 use Rattle.place.specs.declared.setting.Setting.{Setting}
 use Rattle.place.specs.declared.record.Place.{Place}
-use Rattle.place.specs.Setting.{settingAllowed}
+use Rattle.place.specs.Setting.{setting_allowed}
 use Rattle.place.specs.Opening.{blank}
 use Rattle.place.specs.Sound.{SoundPlace}
 use Rattle.run.specs.declared.state.Totals.{Totals}
 use Rattle.run.specs.declared.state.State.{State}
-use Rattle.run.specs.State.{clockMost, setsMost, placeAt}
+use Rattle.run.specs.State.{clock_most, sets_most, place_at}
 use Rattle.run.specs.Sound.{SoundState}
-use Rattle.place.specs.Range.{placeInRange}
-use Rattle.run.specs.Range.{placesInRange, totalsInRange, valuesInRange, stateInRange}
+use Rattle.place.specs.Range.{place_in_range}
+use Rattle.run.specs.Range.{places_in_range, totals_in_range, values_in_range, state_in_range}
 use Rattle.run.specs.Meaning.{RangeAnswers}
-use Rattle.job.proofs.TestLaws.{both, three, allowed-within, within-allowed}
-use Rattle.place.proofs.Meaning.{allowed-exactly}
-use Rattle.place.proofs.RangeLaws.{place-facts, place-test, blank-facts, blank-test}
-use Rattle.run.proofs.HereLaws.{job-sound, past-blank, places-sound}
+use Rattle.job.proofs.TestLaws.{both, three, allowed_within, within_allowed}
+use Rattle.place.proofs.Meaning.{allowed_exactly}
+use Rattle.place.proofs.RangeLaws.{place_facts, place_test, blank_facts, blank_test}
+use Rattle.run.proofs.HereLaws.{job_sound, past_blank, places_sound}
 
 -- the places, one by one
 module _ (setting : Setting) (count : ℕ) (places : List Place) where
-  pub no_place : placesInRange setting count places 0 ≡ true
-  unfolding placesInRange
-  no_place = refl
+  pub no_place_lem : places_in_range setting count places 0 ≡ true
+  unfolding places_in_range
+  no_place_lem = refl
 
-  pub one-more-place :
-      (i : ℕ) → placesInRange setting count places (i + 1)
-      ≡ (placesInRange setting count places i && placeInRange setting (ltb i count) (placeAt places i))
-  unfolding placesInRange
-  one-more-place i = ap (placesInRange setting count places) (add-one i)
+  pub one_more_place :
+      (i : ℕ) → places_in_range setting count places (i + 1)
+      ≡ (places_in_range setting count places i && place_in_range setting (ltb i count) (place_at places i))
+  unfolding places_in_range
+  one_more_place i = ap (places_in_range setting count places) (add-one i)
 
 -- an array has 16 places
-pub by_values : (s : State) → length s.places ≡ countMost → stateInRange s ≡ valuesInRange s
-unfolding stateInRange
-by_values s long = rw (eq-eqb (length s.places) countMost long)
+pub by_values : (s : State) → length s.places ≡ count_most → state_in_range s ≡ values_in_range s
+unfolding state_in_range
+by_values s long = rw (eq-eqb (length s.places) count_most long)
 
 -- all places
 module _ (setting : Setting) (count : ℕ) (places : List Place) where
   abbrev tested : ℕ → Bool
-  tested i = placeInRange setting (ltb i count) (placeAt places i)
+  tested i = place_in_range setting (ltb i count) (place_at places i)
 
-  each-place : (n : ℕ) → placesInRange setting count places n ≡ true → (i : ℕ) → i < n → tested i ≡ true
-  unfolding placesInRange
-  each-place zero e i h = absurd (omega arith)
-  each-place (suc n) e i h =
-      let t = both (placesInRange setting count places n) (tested n) e in
-      below_more (λ (x : ℕ). tested x ≡ true) n (each-place n t.0) t.1 i (omega arith)
+  each_place : (n : ℕ) → places_in_range setting count places n ≡ true → (i : ℕ) → i < n → tested i ≡ true
+  unfolding places_in_range
+  each_place zero e i h = absurd (omega arith)
+  each_place (suc n) e i h =
+      let t = both (places_in_range setting count places n) (tested n) e in
+      below_more (λ (x : ℕ). tested x ≡ true) n (each_place n t.0) t.1 i (omega arith)
 
-  all-places : (n : ℕ) → ((i : ℕ) → i < n → tested i ≡ true) → placesInRange setting count places n ≡ true
-  unfolding placesInRange
-  all-places zero each = refl
-  all-places (suc n) each = rw (all-places n (λ i h. each i (omega arith))) (each n (omega arith))
+  all_places : (n : ℕ) → ((i : ℕ) → i < n → tested i ≡ true) → places_in_range setting count places n ≡ true
+  unfolding places_in_range
+  all_places zero each = refl
+  all_places (suc n) each = rw (all_places n (λ i h. each i (omega arith))) (each n (omega arith))
 
-  listed-facts :
-      placesInRange setting count places countMost ≡ true → count ≤ countMost → (i : ℕ) → i < count
-      → SoundPlace setting (placeAt places i)
-  listed-facts e few i h =
-      place-facts setting (placeAt places i)
-      (rw (lt-ltb i count h) at (each-place countMost e i (omega arith)))
+  listed_facts :
+      places_in_range setting count places count_most ≡ true → count ≤ count_most → (i : ℕ) → i < count
+      → SoundPlace setting (place_at places i)
+  listed_facts e few i h =
+      place_facts setting (place_at places i)
+      (rw (lt-ltb i count h) at (each_place count_most e i (omega arith)))
 
-  others-facts :
-      length places ≡ countMost → placesInRange setting count places countMost ≡ true → (i : ℕ) → count ≤ i
-      → placeAt places i ≡ blank
-  unfolding placeInRange
-  others-facts long e i past = go (dec_lt i countMost)
+  others_facts :
+      length places ≡ count_most → places_in_range setting count places count_most ≡ true → (i : ℕ) → count ≤ i
+      → place_at places i ≡ blank
+  unfolding place_in_range
+  others_facts long e i past = go (dec_lt i count_most)
     where
-      go : Dec (i < countMost) → placeAt places i ≡ blank
-      go (yes h) = blank-facts (placeAt places i) (rw (le-ltb i count past) at (each-place countMost e i h))
+      go : Dec (i < count_most) → place_at places i ≡ blank
+      go (yes h) = blank_facts (place_at places i) (rw (le-ltb i count past) at (each_place count_most e i h))
       go (no far) = get_or-eq_default places blank (omega arith)
 
-  places-test :
-      ((i : ℕ) → i < count → SoundPlace setting (placeAt places i))
-      → ((i : ℕ) → count ≤ i → placeAt places i ≡ blank) → placesInRange setting count places countMost ≡ true
-  unfolding placeInRange
-  places-test listed past = all-places countMost (λ i h. go i (ltb i count) refl)
+  places_test :
+      ((i : ℕ) → i < count → SoundPlace setting (place_at places i))
+      → ((i : ℕ) → count ≤ i → place_at places i ≡ blank) → places_in_range setting count places count_most ≡ true
+  unfolding place_in_range
+  places_test listed past = all_places count_most (λ i h. go i (ltb i count) refl)
     where
       go : (i : ℕ) (b : Bool) → ltb i count ≡ b → tested i ≡ true
-      go i true f = rw f (place-test setting (placeAt places i) (listed i (ltb-true i count f)))
-      go i false f = rw f (blank-test (past i (ltb-false i count f)))
+      go i true f = rw f (place_test setting (place_at places i) (listed i (ltb-true i count f)))
+      go i false f = rw f (blank_test (past i (ltb-false i count f)))
 
 -- the totals
-totals-facts :
-    (clock : ℕ) (t : Totals) → totalsInRange clock t ≡ true
-    → (t.given + t.idle ≡ clock) × (t.tags ≤ setsMost * clock) × (t.shorts ≤ setsMost * clock)
-unfolding totalsInRange
-totals-facts clock t e =
-    let tests = three (eqb (t.given + t.idle) clock) (leb t.tags (setsMost * clock)) (leb t.shorts (setsMost * clock)) e in (
+totals_facts :
+    (clock : ℕ) (t : Totals) → totals_in_range clock t ≡ true
+    → (t.given + t.idle ≡ clock) × (t.tags ≤ sets_most * clock) × (t.shorts ≤ sets_most * clock)
+unfolding totals_in_range
+totals_facts clock t e =
+    let tests = three (eqb (t.given + t.idle) clock) (leb t.tags (sets_most * clock)) (leb t.shorts (sets_most * clock)) e in (
       eqb-true (t.given + t.idle) clock tests.0,
-      leb-true t.tags (setsMost * clock) tests.1,
-      leb-true t.shorts (setsMost * clock) tests.2,
+      leb-true t.tags (sets_most * clock) tests.1,
+      leb-true t.shorts (sets_most * clock) tests.2,
     )
 
 -- the state
-state-facts : (s : State) → stateInRange s ≡ true → SoundState s
-unfolding stateInRange valuesInRange
-state-facts s e =
-    let parts = both (eqb (length s.places) countMost) (valuesInRange s) e in
-    let long = eqb-true (length s.places) countMost parts.0 in
-    let tested = placesInRange s.setting s.count s.places countMost in
-    let fixed = settingAllowed s.setting && leb s.clock clockMost && allowed s.count countMost in
-    let last = three fixed tested (totalsInRange s.clock s.totals) parts.1 in
-    let first = three (settingAllowed s.setting) (leb s.clock clockMost) (allowed s.count countMost) last.0 in
-    let count = allowed-within s.count countMost first.2 in
-    let totals = totals-facts s.clock s.totals last.2 in
+state_facts : (s : State) → state_in_range s ≡ true → SoundState s
+unfolding state_in_range values_in_range
+state_facts s e =
+    let parts = both (eqb (length s.places) count_most) (values_in_range s) e in
+    let long = eqb-true (length s.places) count_most parts.0 in
+    let tested = places_in_range s.setting s.count s.places count_most in
+    let fixed = setting_allowed s.setting && leb s.clock clock_most && allowed s.count count_most in
+    let last = three fixed tested (totals_in_range s.clock s.totals) parts.1 in
+    let first = three (setting_allowed s.setting) (leb s.clock clock_most) (allowed s.count count_most) last.0 in
+    let count = allowed_within s.count count_most first.2 in
+    let totals = totals_facts s.clock s.totals last.2 in
     record {
       long = long;
-      setting = (allowed-exactly s.setting).0 first.0;
-      clock-high = leb-true s.clock clockMost first.1;
+      setting = (allowed_exactly s.setting).0 first.0;
+      clock_high = leb-true s.clock clock_most first.1;
       count = count;
       places =
-          places-sound s.setting s.count s.places (listed-facts s.setting s.count s.places last.1 count.high)
-          (others-facts s.setting s.count s.places long last.1);
+          places_sound s.setting s.count s.places (listed_facts s.setting s.count s.places last.1 count.high)
+          (others_facts s.setting s.count s.places long last.1);
       slots = totals.0;
-      tags-high = totals.1;
-      shorts-high = totals.2;
+      tags_high = totals.1;
+      shorts_high = totals.2;
     }
 
-state-test : (s : State) → SoundState s → stateInRange s ≡ true
-unfolding valuesInRange totalsInRange
-state-test s h =
+state_test : (s : State) → SoundState s → state_in_range s ≡ true
+unfolding values_in_range totals_in_range
+state_test s h =
     by_values s h.long
     ∙ simp
-    ((allowed-exactly s.setting).1 h.setting, le-leb s.clock clockMost h.clock-high, within-allowed s.count countMost h.count, places-test s.setting s.count s.places (job-sound h) (past-blank h), h.slots, eq-eqb s.clock s.clock refl, le-leb s.totals.tags (setsMost * s.clock) h.tags-high, le-leb s.totals.shorts (setsMost * s.clock) h.shorts-high)
+    ((allowed_exactly s.setting).1 h.setting, le-leb s.clock clock_most h.clock_high, within_allowed s.count count_most h.count, places_test s.setting s.count s.places (job_sound h) (past_blank h), h.slots, eq-eqb s.clock s.clock refl, le-leb s.totals.tags (sets_most * s.clock) h.tags_high, le-leb s.totals.shorts (sets_most * s.clock) h.shorts_high)
 
-pub range-exactly : (s : State) → (stateInRange s ≡ true) ↔ SoundState s
-range-exactly s = (state-facts s, state-test s)
+pub range_exactly : (s : State) → (state_in_range s ≡ true) ↔ SoundState s
+range_exactly s = (state_facts s, state_test s)
 
-pub range-answers : RangeAnswers
-range-answers s r promise = rw promise (range-exactly s)
+pub range_answers : RangeAnswers
+range_answers s r promise = rw promise (range_exactly s)

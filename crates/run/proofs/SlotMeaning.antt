@@ -12,151 +12,151 @@ use borrow.Author.Tests.{eqb-true, eqb-false, ne_eqb}
 use Rattle.place.specs.declared.setting.Setting.{Setting}
 use Rattle.place.specs.declared.record.Place.{Place}
 use Rattle.place.specs.declared.inner.choice.Fraction.{Fraction}
-use Rattle.place.specs.Setting.{inOrderV}
-use Rattle.place.specs.Place.{windowLeft, left_of, finishedOf, owedOf, eligibleOf, numeratorOf, overdueOf, finishesOf, tagsOf, firstTagged, withService, servedOf, given_of, taggedOf, workedOf, windowEnds, short_of, turnedOf, movedOf}
-use Rattle.place.specs.Choice.{roomOf, takesSpare, virtualAway, windowAway, dueAway, nearerOf, noPlace}
+use Rattle.place.specs.Setting.{in_order_v}
+use Rattle.place.specs.Place.{window_left, left_of, finished_of, owed_of, eligible_of, numerator_of, overdue_of, finishes_of, tags_of, first_tagged, with_service, served_of, given_of, tagged_of, worked_of, window_ends, short_of, turned_of, moved_of}
+use Rattle.place.specs.Choice.{room_of, takes_spare, virtual_away, window_away, due_away, nearer_of, no_place}
 use Rattle.place.specs.Sound.{SoundPlace}
-use Rattle.place.proofs.CounterLaws.{worked-ends, turned_on, turned-period, turned-window}
-use Rattle.place.proofs.SignedLaws.{difference-most}
-use Rattle.place.proofs.DistanceLaws.{minus, side, nearer-is, difference-parts, ltb-shift}
+use Rattle.place.proofs.CounterLaws.{worked_ends, turned_on, turned_period, turned_window}
+use Rattle.place.proofs.SignedLaws.{difference_most}
+use Rattle.place.proofs.DistanceLaws.{minus, side, nearer_is, difference_parts, ltb_shift}
 use Rattle.run.specs.declared.state.State.{State}
 use Rattle.run.specs.declared.answer.Choice.{Choice}
 use Rattle.run.specs.declared.answer.Choice.TheVariants.{Given, Idle}
 use Rattle.run.specs.declared.answer.StepAnswer.TheVariants.{Done}
 use Rattle.run.specs.Choice.{chosen_of}
-use Rattle.run.specs.Slot.{choice_of, tagsAt, shortsAt, allMoved, turn_of}
+use Rattle.run.specs.Slot.{choice_of, tags_at, shorts_at, all_moved, turn_of}
 use Rattle.run.specs.Sound.{SoundState}
-use Rattle.run.specs.SlotMeaning.{left, endsSooner, periodCloses, isRelaxed, owed, due, sooner, takes, late, finishes, tags, served, onward, isGiven, place_of, due_at, takesAt, Picks, Idles, given, firstTags, endsShort, SlotDone, StepsSlot}
-use Rattle.run.proofs.HereLaws.{at, job-sound}
-use Rattle.run.proofs.BestLaws.{SameTest, SameOrder, picked_same, idle-same}
-use Rattle.run.proofs.ChoiceLaws.{NoCandidate, Chosen, given-idle, given-exactly, idle-exactly, eligibleAt, nearerAt, takesHere, endsHere, chosen-picked, none-picked}
-use Rattle.run.proofs.SlotLaws.{placed-length, placed-later, mask-exactly, count-is}
-use Rattle.run.proofs.KeepLaws.{turn-place}
-use Rattle.run.proofs.AnswerLaws.{step-one-to-one, state-done}
-use Rattle.run.proofs.CallLaws.{step-done}
+use Rattle.run.specs.SlotMeaning.{left, ends_sooner, period_closes, is_relaxed, owed, due, sooner, takes, late, finishes, tags, served, onward, is_given, place_of, due_at, takes_at, Picks, Idles, given, first_tags, ends_short, SlotDone, StepsSlot}
+use Rattle.run.proofs.HereLaws.{at, job_sound}
+use Rattle.run.proofs.BestLaws.{SameTest, SameOrder, picked_same, idle_same}
+use Rattle.run.proofs.ChoiceLaws.{NoCandidate, Chosen, given_idle, given_exactly, idle_exactly, eligible_at, nearer_at, takes_here, ends_here, chosen_picked, none_picked}
+use Rattle.run.proofs.SlotLaws.{placed_length, placed_later, mask_exactly, count_is}
+use Rattle.run.proofs.KeepLaws.{turn_place}
+use Rattle.run.proofs.AnswerLaws.{step_one_to_one, state_done}
+use Rattle.run.proofs.CallLaws.{step_done}
 
 -- a place
 
 module _ (setting : Setting) (q : Place) where
-  left_is : windowLeft q ≡ left q
-  unfolding windowLeft
+  left_is : window_left q ≡ left q
+  unfolding window_left
   left_is = refl
 
-  owed-is : owedOf setting q ≡ owed setting q
-  unfolding owedOf finishedOf owed
-  owed-is = refl
+  owed_is : owed_of setting q ≡ owed setting q
+  unfolding owed_of finished_of owed
+  owed_is = refl
 
-  due-is : eligibleOf setting q ≡ due setting q
-  unfolding eligibleOf due
-  due-is = refl
+  due_is : eligible_of setting q ≡ due setting q
+  unfolding eligible_of due
+  due_is = refl
 
-  takes-is : takesSpare setting q ≡ takes setting q
-  unfolding takesSpare roomOf owedOf finishedOf takes owed
-  takes-is = refl
+  takes_is : takes_spare setting q ≡ takes setting q
+  unfolding takes_spare room_of owed_of finished_of takes owed
+  takes_is = refl
 
-  late_is : overdueOf setting q ≡ late setting q
-  unfolding overdueOf numeratorOf late
+  late_is : overdue_of setting q ≡ late setting q
+  unfolding overdue_of numerator_of late
   late_is =
-      let m' : ℕ = owedOf setting q in
+      let m' : ℕ = owed_of setting q in
       ap (ltb 0 m' &&◌)
-      (difference-most (windowLeft q) (q.at.e * m') m'
-      ∙ ap (leb (windowLeft q)) (let e : q.at.e * m' + m' ≡ (q.at.e + 1) * m' = omega arith in e))
-      ∙ rw (owed-is, left_is)
+      (difference_most (window_left q) (q.at.e * m') m'
+      ∙ ap (leb (window_left q)) (let e : q.at.e * m' + m' ≡ (q.at.e + 1) * m' = omega arith in e))
+      ∙ rw (owed_is, left_is)
 
-  tags-is : (chosen : Bool) → tagsOf setting q chosen ≡ tags setting q chosen
-  unfolding tagsOf finishesOf tags finishes
-  tags-is chosen = rw late_is
+  tags_is : (chosen : Bool) → tags_of setting q chosen ≡ tags setting q chosen
+  unfolding tags_of finishes_of tags finishes
+  tags_is chosen = rw late_is
 
   -- the period is not over, and so neither is the window
-  gone-high : SoundPlace setting q → q.at.e ≤ left q
-  gone-high sound =
-      omega (arith, sound.e-high, mul-le-mul_right q.job.t (let h : 1 ≤ q.job.k - q.at.p + 1 = omega arith in h))
+  gone_high : SoundPlace setting q → q.at.e ≤ left q
+  gone_high sound =
+      omega (arith, sound.e_high, mul-le-mul_right q.job.t (let h : 1 ≤ q.job.k - q.at.p + 1 = omega arith in h))
 
 -- two distances, as fractions and as whole slots
 
 fractions :
     (l l' e e' m m' : ℕ)
-    → nearerOf (record { num = pos l -ℤ pos (e * m); den = m }) (record { num = pos l' -ℤ pos (e' * m'); den = m' })
+    → nearer_of (record { num = pos l -ℤ pos (e * m); den = m }) (record { num = pos l' -ℤ pos (e' * m'); den = m' })
     ≡ ltb ((l + e' * m) * m') ((l' + e * m') * m)
 fractions l l' e e' m m' =
     let x = pos l -ℤ pos (e * m) in
     let y = pos l' -ℤ pos (e' * m') in
     let a : Fraction = record { num = x; den = m } in
     let b : Fraction = record { num = y; den = m' } in
-    nearer-is a b
-    ∙ ltb-shift (side a b) (side b a) ((l + e' * m) * m') ((l' + e * m') * m) (e * m * m' + e' * m * m')
+    nearer_is a b
+    ∙ ltb_shift (side a b) (side b a) ((l + e' * m) * m') ((l' + e * m') * m) (e * m * m' + e' * m * m')
     (minus x * m' + minus y * m)
-    (omega (arith, ap (◌* m') (difference-parts l (e * m))))
-    (omega (arith, ap (◌* m) (difference-parts l' (e' * m'))))
+    (omega (arith, ap (◌* m') (difference_parts l (e * m))))
+    (omega (arith, ap (◌* m) (difference_parts l' (e' * m'))))
 
 wholes :
-    (l l' : ℕ) → nearerOf (record { num = pos l; den = 1 }) (record { num = pos l'; den = 1 }) ≡ ltb l l'
+    (l l' : ℕ) → nearer_of (record { num = pos l; den = 1 }) (record { num = pos l'; den = 1 }) ≡ ltb l l'
 wholes l l' =
     let a : Fraction = record { num = pos l; den = 1 } in
     let b : Fraction = record { num = pos l'; den = 1 } in
-    nearer-is a b ∙ ltb-shift (side a b) (side b a) l l' 0 0 (omega arith) (omega arith)
+    nearer_is a b ∙ ltb_shift (side a b) (side b a) l l' 0 0 (omega arith) (omega arith)
 
 ends_is :
-    (setting : Setting) (q r : Place) → SoundPlace setting q → SoundPlace setting r → ltb (left_of q) (left_of r) ≡ endsSooner q r
-unfolding left_of windowLeft
+    (setting : Setting) (q r : Place) → SoundPlace setting q → SoundPlace setting r → ltb (left_of q) (left_of r) ≡ ends_sooner q r
+unfolding left_of window_left
 ends_is setting q r sound-q sound-r =
-    let h = gone-high setting q sound-q in
-    let g = gone-high setting r sound-r in
-    ltb-shift (left_of q) (left_of r) (left q + r.at.e) (left r + q.at.e) (q.at.e + r.at.e) 0 (omega arith) (omega arith)
+    let h = gone_high setting q sound-q in
+    let g = gone_high setting r sound-r in
+    ltb_shift (left_of q) (left_of r) (left q + r.at.e) (left r + q.at.e) (q.at.e + r.at.e) 0 (omega arith) (omega arith)
 
-sooner-is :
+sooner_is :
     (setting : Setting) (q r : Place) → SoundPlace setting q → SoundPlace setting r
-    → nearerOf (dueAway setting q) (dueAway setting r) ≡ sooner setting q r
-unfolding dueAway numeratorOf sooner owedOf finishedOf owed windowLeft
-sooner-is setting q r sound-q sound-r = go (inOrderV setting)
+    → nearer_of (due_away setting q) (due_away setting r) ≡ sooner setting q r
+unfolding due_away numerator_of sooner owed_of finished_of owed window_left
+sooner_is setting q r sound-q sound-r = go (in_order_v setting)
   where
     go :
         (t : Bool)
-        → nearerOf
-        (cond t (virtualAway setting q) (windowAway q)) (cond t (virtualAway setting r) (windowAway r))
+        → nearer_of
+        (cond t (virtual_away setting q) (window_away q)) (cond t (virtual_away setting r) (window_away r))
         ≡ cond t (ltb ((left q + r.at.e * owed setting q) * owed setting r) ((left r + q.at.e * owed setting r) * owed setting q))
-        (endsSooner q r)
+        (ends_sooner q r)
     go true = fractions (left q) (left r) q.at.e r.at.e (owed setting q) (owed setting r)
     go false = wholes (left_of q) (left_of r) ∙ ends_is setting q r sound-q sound-r
 
 -- the choice
 
 module _ (s : State) (sound : SoundState s) where
-  sooner-at : SameOrder s.count (nearerAt s) (λ i j. sooner s.setting (place_of s i) (place_of s j))
-  sooner-at i j h g = sooner-is s.setting (at s i) (at s j) (job-sound sound i h) (job-sound sound j g)
+  sooner_at_lem : SameOrder s.count (nearer_at s) (λ i j. sooner s.setting (place_of s i) (place_of s j))
+  sooner_at_lem i j h g = sooner_is s.setting (at s i) (at s j) (job_sound sound i h) (job_sound sound j g)
 
-  ends-at : SameOrder s.count (endsHere s) (λ i j. endsSooner (place_of s i) (place_of s j))
-  ends-at i j h g = ends_is s.setting (at s i) (at s j) (job-sound sound i h) (job-sound sound j g)
+  ends_at_lem : SameOrder s.count (ends_here s) (λ i j. ends_sooner (place_of s i) (place_of s j))
+  ends_at_lem i j h g = ends_is s.setting (at s i) (at s j) (job_sound sound i h) (job_sound sound j g)
 
-  due-at : SameTest s.count (eligibleAt s) (due_at s)
-  due-at i h = due-is s.setting (at s i)
+  due_at_lem : SameTest s.count (eligible_at s) (due_at s)
+  due_at_lem i h = due_is s.setting (at s i)
 
-  takes_at : SameTest s.count (takesHere s) (takesAt s)
-  takes_at i h = takes-is s.setting (at s i)
+  takes_at_lem : SameTest s.count (takes_here s) (takes_at s)
+  takes_at_lem i h = takes_is s.setting (at s i)
 
-  chosen-picks : (j : ℕ) → Chosen s j ↔ Picks s j
-  chosen-picks j = Iff.trans (chosen-picked s sound j) (picked_same due-at sooner-at takes_at ends-at j)
+  chosen_picks : (j : ℕ) → Chosen s j ↔ Picks s j
+  chosen_picks j = Iff.trans (chosen_picked s sound j) (picked_same due_at_lem sooner_at_lem takes_at_lem ends_at_lem j)
 
-  none-idles : NoCandidate s ↔ Idles s
-  none-idles = Iff.trans (none-picked s sound) (idle-same due-at sooner-at takes_at ends-at)
+  none_idles : NoCandidate s ↔ Idles s
+  none_idles = Iff.trans (none_picked s sound) (idle_same due_at_lem sooner_at_lem takes_at_lem ends_at_lem)
 
 -- the place after the slot, and the two sets
 
 module _ (setting : Setting) (q : Place) where
-  served-is : (chosen : Bool) → workedOf setting q chosen ≡ served setting q chosen
-  unfolding workedOf given_of servedOf served
-  served-is chosen = rw (tags-is setting q chosen) (go chosen (isRelaxed setting))
+  served_is : (chosen : Bool) → worked_of setting q chosen ≡ served setting q chosen
+  unfolding worked_of given_of served_of served
+  served_is chosen = rw (tags_is setting q chosen) (go chosen (is_relaxed setting))
     where
       go :
           (given relaxed : Bool)
-          → taggedOf
+          → tagged_of
           (cond given
-          (cond relaxed (withService q (q.at.u + 1) q.at.s q.at.v)
-          (withService q q.at.u (cond (eqb (q.at.v + 1) q.job.c) (q.at.s + 1) q.at.s) (q.at.v + 1)))
+          (cond relaxed (with_service q (q.at.u + 1) q.at.s q.at.v)
+          (with_service q q.at.u (cond (eqb (q.at.v + 1) q.job.c) (q.at.s + 1) q.at.s) (q.at.v + 1)))
           q)
           (tags setting q chosen)
-          ≡ taggedOf
-          (withService q (cond (given && relaxed) (q.at.u + 1) q.at.u)
+          ≡ tagged_of
+          (with_service q (cond (given && relaxed) (q.at.u + 1) q.at.u)
           (cond (given && not relaxed && eqb (q.at.v + 1) q.job.c) (q.at.s + 1) q.at.s)
           (cond (given && not relaxed) (q.at.v + 1) q.at.v))
           (tags setting q chosen)
@@ -164,120 +164,120 @@ module _ (setting : Setting) (q : Place) where
       go true false = refl
       go false relaxed = refl
 
-onward-is : (q : Place) → q.at.e < q.job.t → q.at.p ≤ q.job.k → turnedOf q ≡ onward q
-unfolding turnedOf onward
-onward-is q gone within = go (eqb (q.at.e + 1) q.job.t) (eqb q.at.p q.job.k) refl refl
+onward_is : (q : Place) → q.at.e < q.job.t → q.at.p ≤ q.job.k → turned_of q ≡ onward q
+unfolding turned_of onward
+onward_is q gone within = go (eqb (q.at.e + 1) q.job.t) (eqb q.at.p q.job.k) refl refl
   where
-    go : (period window : Bool) → periodCloses q ≡ period → eqb q.at.p q.job.k ≡ window → turnedOf q ≡ onward q
+    go : (period window : Bool) → period_closes q ≡ period → eqb q.at.p q.job.k ≡ window → turned_of q ≡ onward q
     go false window e f =
         let inside = eqb-false (q.at.e + 1) q.job.t e in
         turned_on q (omega arith) ∙ rw e
     go true false e f =
         let closes = eqb-true (q.at.e + 1) q.job.t e in
         let more = eqb-false q.at.p q.job.k f in
-        turned-period q (omega arith) (omega arith) ∙ rw (e, f)
+        turned_period q (omega arith) (omega arith) ∙ rw (e, f)
     go true true e f =
         let closes = eqb-true (q.at.e + 1) q.job.t e in
         let last = eqb-true q.at.p q.job.k f in
-        turned-window q (omega arith) (omega arith) ∙ rw (e, f)
+        turned_window q (omega arith) (omega arith) ∙ rw (e, f)
 
 -- the answer's choice says which place is chosen
-given-at : (a i : ℕ) → i < noPlace → eqb i a ≡ isGiven (choice_of a) i
+given_at : (a i : ℕ) → i < no_place → eqb i a ≡ is_given (choice_of a) i
 unfolding choice_of
-given-at a i h = go (eqb a noPlace) refl
+given_at a i h = go (eqb a no_place) refl
   where
-    go : (t : Bool) → eqb a noPlace ≡ t → eqb i a ≡ isGiven (cond t Idle (Given a)) i
-    go true e = ne_eqb i a (let is = eqb-true a noPlace e in omega arith)
+    go : (t : Bool) → eqb a no_place ≡ t → eqb i a ≡ is_given (cond t Idle (Given a)) i
+    go true e = ne_eqb i a (let is = eqb-true a no_place e in omega arith)
     go false e = refl
 
 -- and whether none is
-some_at : (a j : ℕ) → choice_of a ≡ Given j → eqb a noPlace ≡ false
+some_at : (a j : ℕ) → choice_of a ≡ Given j → eqb a no_place ≡ false
 unfolding choice_of
-some_at a j = go (eqb a noPlace)
+some_at a j = go (eqb a no_place)
   where
     go : (t : Bool) → cond t Idle (Given a) ≡ Given j → t ≡ false
-    go true e = absurd (given-idle (sym e))
+    go true e = absurd (given_idle (sym e))
     go false e = refl
 
-none-at : (a : ℕ) → choice_of a ≡ Idle → eqb a noPlace ≡ true
+none_at : (a : ℕ) → choice_of a ≡ Idle → eqb a no_place ≡ true
 unfolding choice_of
-none-at a = go (eqb a noPlace)
+none_at a = go (eqb a no_place)
   where
     go : (t : Bool) → cond t Idle (Given a) ≡ Idle → t ≡ true
     go true e = refl
-    go false e = absurd (given-idle e)
+    go false e = absurd (given_idle e)
 
 module _ (s : State) (sound : SoundState s) where
   abbrev choice : Choice
   choice = (turn_of s).slot.choice
 
-  choice-is : choice ≡ choice_of (chosen_of s)
+  choice_is : choice ≡ choice_of (chosen_of s)
   unfolding turn_of
-  choice-is = refl
+  choice_is = refl
 
   module _ (i : ℕ) (listed : i < s.count) where
-    chosen_is : eqb i (chosen_of s) ≡ isGiven choice i
+    chosen_is : eqb i (chosen_of s) ≡ is_given choice i
     chosen_is =
-        given-at (chosen_of s) i (omega (arith, sound.count.high)) ∙ ap (λ (c : Choice). isGiven c i) (sym choice-is)
+        given_at (chosen_of s) i (omega (arith, sound.count.high)) ∙ ap (λ (c : Choice). is_given c i) (sym choice_is)
 
-    pub worked-here : workedOf s.setting (at s i) (eqb i (chosen_of s)) ≡ given s choice i
-    worked-here = served-is s.setting (at s i) (eqb i (chosen_of s)) ∙ ap (served s.setting (at s i)) chosen_is
+    pub worked_here : worked_of s.setting (at s i) (eqb i (chosen_of s)) ≡ given s choice i
+    worked_here = served_is s.setting (at s i) (eqb i (chosen_of s)) ∙ ap (served s.setting (at s i)) chosen_is
 
-    first-here : tagsAt s.setting s.places (chosen_of s) i ≡ firstTags s choice i
-    unfolding movedOf firstTagged firstTags
-    first-here = rw (tags-is s.setting (at s i) (eqb i (chosen_of s)), chosen_is)
+    first_here : tags_at s.setting s.places (chosen_of s) i ≡ first_tags s choice i
+    unfolding moved_of first_tagged first_tags
+    first_here = rw (tags_is s.setting (at s i) (eqb i (chosen_of s)), chosen_is)
 
-    short-here : shortsAt s.setting s.places (chosen_of s) i ≡ endsShort s choice i
-    unfolding movedOf short_of endsShort windowEnds
-    short-here =
-        ap₂ (λ (a : Bool) (n : ℕ). a && ltb 0 n) (worked-ends s.setting (at s i) (eqb i (chosen_of s)))
-        (ap (owedOf s.setting) worked-here ∙ owed-is s.setting (given s choice i))
+    short_here : shorts_at s.setting s.places (chosen_of s) i ≡ ends_short s choice i
+    unfolding moved_of short_of ends_short window_ends
+    short_here =
+        ap₂ (λ (a : Bool) (n : ℕ). a && ltb 0 n) (worked_ends s.setting (at s i) (eqb i (chosen_of s)))
+        (ap (owed_of s.setting) worked_here ∙ owed_is s.setting (given s choice i))
 
     place_here : place_of (turn_of s).state i ≡ onward (given s choice i)
-    unfolding movedOf served
+    unfolding moved_of served
     place_here =
-        let place = job-sound sound i listed in
-        turn-place s sound i listed
-        ∙ ap turnedOf worked-here
-        ∙ onward-is (given s choice i) place.e-high place.period.high
+        let place = job_sound sound i listed in
+        turn_place s sound i listed
+        ∙ ap turned_of worked_here
+        ∙ onward_is (given s choice i) place.e_high place.period.high
 
 -- the slot
 
 module _ (s : State) (sound : SoundState s) where
-  slot-done : SlotDone s (turn_of s).slot (turn_of s).state
-  unfolding turn_of allMoved
-  slot-done =
+  slot_done : SlotDone s (turn_of s).slot (turn_of s).state
+  unfolding turn_of all_moved
+  slot_done =
       record {
         given_is =
             λ j.
-            let a = given-exactly s sound j in
-            let b = chosen-picks s sound j in
+            let a = given_exactly s sound j in
+            let b = chosen_picks s sound j in
             (λ e. b.0 (a.0 e), λ p. a.1 (b.1 p));
-        idle-is =
-            let a = idle-exactly s sound in
-            let b = none-idles s sound in
+        idle_is =
+            let a = idle_exactly s sound in
+            let b = none_idles s sound in
             (λ e. b.0 (a.0 e), λ none. a.1 (b.1 none));
-        tags-are =
-            mask-exactly (tagsAt s.setting s.places (chosen_of s)) (firstTags s (turn_of s).slot.choice) refl (first-here s sound);
-        shorts-are =
-            mask-exactly (shortsAt s.setting s.places (chosen_of s)) (endsShort s (turn_of s).slot.choice) refl (short-here s sound);
-        setting-stays = refl;
-        count-stays = refl;
-        clock-grows = refl;
-        places-long = placed-length s.setting s.places (chosen_of s) s.count ∙ sound.long;
-        places-are = place_here s sound;
-        others-stay = placed-later s.setting s.places (chosen_of s) s.count;
-        given-total = λ j is. let e = some_at (chosen_of s) j is in (rw e, rw e);
-        idle-total = λ is. let e = none-at (chosen_of s) is in (rw e, rw e);
-        tags-total =
+        tags_are =
+            mask_exactly (tags_at s.setting s.places (chosen_of s)) (first_tags s (turn_of s).slot.choice) refl (first_here s sound);
+        shorts_are =
+            mask_exactly (shorts_at s.setting s.places (chosen_of s)) (ends_short s (turn_of s).slot.choice) refl (short_here s sound);
+        setting_stays = refl;
+        count_stays = refl;
+        clock_grows = refl;
+        places_long = placed_length s.setting s.places (chosen_of s) s.count ∙ sound.long;
+        places_are = place_here s sound;
+        others_stay = placed_later s.setting s.places (chosen_of s) s.count;
+        given_total = λ j is. let e = some_at (chosen_of s) j is in (rw e, rw e);
+        idle_total = λ is. let e = none_at (chosen_of s) is in (rw e, rw e);
+        tags_total =
             ap (s.totals.tags +◌)
-            (count-is (tagsAt s.setting s.places (chosen_of s)) (firstTags s (turn_of s).slot.choice) s.count (first-here s sound));
-        shorts-total =
+            (count_is (tags_at s.setting s.places (chosen_of s)) (first_tags s (turn_of s).slot.choice) s.count (first_here s sound));
+        shorts_total =
             ap (s.totals.shorts +◌)
-            (count-is (shortsAt s.setting s.places (chosen_of s)) (endsShort s (turn_of s).slot.choice) s.count (short-here s sound));
+            (count_is (shorts_at s.setting s.places (chosen_of s)) (ends_short s (turn_of s).slot.choice) s.count (short_here s sound));
       }
 
-pub steps-slot : StepsSlot
-steps-slot s sound below r promise =
-    let told = step-done s sound below in
-    ((turn_of s).slot, step-one-to-one r.answer (Done (turn_of s).slot) (promise.0 ∙ told), rw (promise.1 ∙ state-done s told) (slot-done s sound))
+pub steps_slot : StepsSlot
+steps_slot s sound below r promise =
+    let told = step_done s sound below in
+    ((turn_of s).slot, step_one_to_one r.answer (Done (turn_of s).slot) (promise.0 ∙ told), rw (promise.1 ∙ state_done s told) (slot_done s sound))

@@ -8,9 +8,9 @@ use Rattle.run.specs.declared.answer.StepAnswer.{StepAnswer}
 use Rattle.run.specs.declared.answer.StepAnswer.TheVariants.{Done, Refused}
 
 -- a job's number, or nothing
-abbrev pub toldChoice : Choice → List ℕ
-toldChoice (Given j) = j ∷ []
-toldChoice Idle = []
+abbrev pub told_choice : Choice → List ℕ
+told_choice (Given j) = j ∷ []
+told_choice Idle = []
 
 -- 'one byte each, 0 to 15 or 255 for idle'
 abbrev pub byte_of : Choice → ℕ
@@ -22,9 +22,9 @@ abbrev pub member : ℕ → ℕ → Bool
 member mask i = eqb (mask / 2 ^ i % 2) 1
 
 -- the two sets, and the choice
-abbrev pub toldSlot : Slot → List ℕ
-toldSlot a = a.tags ∷ a.shorts ∷ toldChoice a.choice
+abbrev pub told_slot : Slot → List ℕ
+told_slot a = a.tags ∷ a.shorts ∷ told_choice a.choice
 
-abbrev pub toldStep : StepAnswer → Told
-toldStep (Done a) = row 0 (toldSlot a)
-toldStep (Refused r) = told r
+abbrev pub told_step : StepAnswer → Told
+told_step (Done a) = row 0 (told_slot a)
+told_step (Refused r) = told r

@@ -15,7 +15,7 @@ use Rattle.run.specs.Promise.{StartPromise, StepPromise}
 -- calls of `step` from one state to another, and the slots that they answer
 pub data Steps : State → List Slot → State → Type 0 where
   no_step : {s : State} → Steps s [] s
-  a-step :
+  a_step :
       {s t : State} {slot : Slot} {slots : List Slot} (r : Stepped) → StepPromise s r → r.answer ≡ Done slot
       → Steps r.state slots t → Steps s (slot ∷ slots) t
 

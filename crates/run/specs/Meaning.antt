@@ -2,29 +2,29 @@
 -- allow. What the slots of a run are stands in the crate `rules`. Each statement is proved in proofs/, under its name.
 use Rattle.std.specs.Prelude.{◌≡◌, ◌↔◌, Bool, true, false, [], ℕ, ◌≤◌, ◌<◌, length, get_or}
 use Rattle.job.specs.declared.list.JobList.{JobList}
-use Rattle.job.specs.Limit.{countMost}
+use Rattle.job.specs.Limit.{count_most}
 use Rattle.job.specs.declared.refusal.Checked.TheVariants.{Passed}
-use Rattle.job.specs.Told.{row, toldChecked}
-use Rattle.job.specs.Check.{noJob}
+use Rattle.job.specs.Told.{row, told_checked}
+use Rattle.job.specs.Check.{no_job}
 use Rattle.job.specs.Sound.{SoundList}
 use Rattle.job.specs.Meaning.{ListRows}
 use Rattle.place.specs.declared.setting.Setting.{Setting}
 use Rattle.place.specs.Sound.{Allowed}
-use Rattle.place.specs.Meaning.{unserved, placeOfZeros}
+use Rattle.place.specs.Meaning.{unserved, place_of_zeros}
 use Rattle.run.specs.declared.state.State.{State}
 use Rattle.run.specs.declared.answer.Slot.{Slot}
 use Rattle.run.specs.declared.answer.StepAnswer.{StepAnswer}
 use Rattle.run.specs.declared.answer.StepAnswer.TheVariants.{Done}
 use Rattle.run.specs.declared.answer.Started.{Started}
 use Rattle.run.specs.declared.answer.Stepped.{Stepped}
-use Rattle.run.specs.State.{clockMost}
+use Rattle.run.specs.State.{clock_most}
 use Rattle.run.specs.Sound.{SoundState}
-use Rattle.run.specs.Answer.{toldStep}
+use Rattle.run.specs.Answer.{told_step}
 use Rattle.run.specs.Promise.{ZerosPromise, FreshPromise, InRangePromise, StartPromise, StepPromise}
 
 -- an answer is determined by the paper's number and values
 abbrev pub StepOneToOne : Type 0
-StepOneToOne = (a b : StepAnswer) → toldStep a ≡ toldStep b → a ≡ b
+StepOneToOne = (a b : StepAnswer) → told_step a ≡ told_step b → a ≡ b
 
 -- 'A state is in its ranges when ..': `State::in_range`
 abbrev pub RangeAnswers : Type 0
@@ -37,8 +37,8 @@ pub record AllZeros (s : State) : Type 0 where
   pub spare : s.setting.spare ≡ false
   pub clock : s.clock ≡ 0
   pub count : s.count ≡ 0
-  pub places-long : length s.places ≡ countMost
-  pub places : (i : ℕ) → i < countMost → get_or s.places i placeOfZeros ≡ placeOfZeros
+  pub places_long : length s.places ≡ count_most
+  pub places : (i : ℕ) → i < count_most → get_or s.places i place_of_zeros ≡ place_of_zeros
   pub given : s.totals.given ≡ 0
   pub idle : s.totals.idle ≡ 0
   pub tags : s.totals.tags ≡ 0
@@ -49,13 +49,13 @@ ZerosAll = (r : State) → ZerosPromise r → AllZeros r
 
 -- 'the fresh state of a list', of any list and setting: every window opens at slot 0. `State::fresh`
 pub record Opens (l : JobList) (setting : Setting) (s : State) : Type 0 where
-  pub setting-is : s.setting ≡ setting
+  pub setting_is : s.setting ≡ setting
   pub clock : s.clock ≡ 0
   pub count : s.count ≡ l.count
-  pub places-long : length s.places ≡ countMost
+  pub places_long : length s.places ≡ count_most
   pub places :
-      (i : ℕ) → i < l.count → i < countMost → get_or s.places i placeOfZeros ≡ unserved (get_or l.jobs i noJob) 1
-  pub others : (i : ℕ) → l.count ≤ i → get_or s.places i placeOfZeros ≡ placeOfZeros
+      (i : ℕ) → i < l.count → i < count_most → get_or s.places i place_of_zeros ≡ unserved (get_or l.jobs i no_job) 1
+  pub others : (i : ℕ) → l.count ≤ i → get_or s.places i place_of_zeros ≡ place_of_zeros
   pub given : s.totals.given ≡ 0
   pub idle : s.totals.idle ≡ 0
   pub tags : s.totals.tags ≡ 0
@@ -66,8 +66,8 @@ FreshOpens = (l : JobList) (s : Setting) (r : State) → FreshPromise l s r → 
 
 -- `start`: 'a start tests 15, then 1 to 6'
 pub record StartTold (l : JobList) (s : Setting) (r : Started) : Type 0 where
-  pub row-fifteen : (toldChecked r.answer ≡ row 15 []) ↔ (Allowed s → ⊥)
-  pub list-rows : Allowed s → ListRows l (toldChecked r.answer)
+  pub row_fifteen : (told_checked r.answer ≡ row 15 []) ↔ (Allowed s → ⊥)
+  pub list_rows : Allowed s → ListRows l (told_checked r.answer)
   pub passes : (r.answer ≡ Passed) ↔ (Allowed s × SoundList l)
   pub opens : r.answer ≡ Passed → Opens l s r.state
   pub sound : r.answer ≡ Passed → SoundState r.state
@@ -79,9 +79,9 @@ StartAnswers = (l : JobList) (s : Setting) (r : Started) → StartPromise l s r 
 
 -- `step`: 'A step tests 10, 11'
 pub record StepTold (s : State) (r : Stepped) : Type 0 where
-  pub row-ten : (toldStep r.answer ≡ row 10 []) ↔ (SoundState s → ⊥)
-  pub row-eleven : (toldStep r.answer ≡ row 11 []) ↔ (SoundState s × (s.clock ≡ clockMost))
-  pub done : ((slot : Slot) × (r.answer ≡ Done slot)) ↔ (SoundState s × (s.clock < clockMost))
+  pub row_ten : (told_step r.answer ≡ row 10 []) ↔ (SoundState s → ⊥)
+  pub row_eleven : (told_step r.answer ≡ row 11 []) ↔ (SoundState s × (s.clock ≡ clock_most))
+  pub done : ((slot : Slot) × (r.answer ≡ Done slot)) ↔ (SoundState s × (s.clock < clock_most))
   -- row 10 is never given along a run
   pub sound : SoundState s → SoundState r.state
   -- 'A refused step ..: a state handed in comes back equal.'

@@ -4,11 +4,11 @@ use Rattle.run.specs.declared.state.State.{State}
 use Rattle.run.specs.Slot.{turn_of}
 use Rattle.run.specs.Answer.{byte_of}
 
-unfoldable pub afterSlots : State → ℕ → State
-afterSlots s zero = s
-afterSlots s (suc n) = (turn_of (afterSlots s n)).state
+unfoldable pub after_slots : State → ℕ → State
+after_slots s zero = s
+after_slots s (suc n) = (turn_of (after_slots s n)).state
 
 -- 'The next n choices .. one byte each, 0 to 15 or 255 for idle'
-unfoldable pub choicesOf : State → ℕ → List ℕ
-choicesOf s zero = []
-choicesOf s (suc n) = choicesOf s n ++ (byte_of (turn_of (afterSlots s n)).slot.choice ∷ [])
+unfoldable pub choices_of : State → ℕ → List ℕ
+choices_of s zero = []
+choices_of s (suc n) = choices_of s n ++ (byte_of (turn_of (after_slots s n)).slot.choice ∷ [])

@@ -2,9 +2,9 @@
 use Rattle.std.specs.Prelude.{ℕ, min, List, get_or, replicate}
 use Rattle.job.specs.declared.record.Job.{Job}
 use Rattle.job.specs.declared.list.JobList.{JobList}
-use Rattle.job.specs.Limit.{countMost}
-use Rattle.job.specs.Check.{jobAt}
-use Rattle.job.specs.Filled.{filledUpto}
+use Rattle.job.specs.Limit.{count_most}
+use Rattle.job.specs.Check.{job_at}
+use Rattle.job.specs.Filled.{filled_upto}
 use Rattle.place.specs.declared.setting.Setting.{Setting}
 use Rattle.place.specs.declared.record.Place.{Place}
 use Rattle.place.specs.Setting.{setting_of}
@@ -12,15 +12,15 @@ use Rattle.place.specs.Opening.{blank, opened}
 use Rattle.run.specs.declared.state.State.{State}
 
 -- 'slot clock: 0 to 4,294,967,295'
-abbrev pub clockMost : ℕ
-clockMost = 4294967295
+abbrev pub clock_most : ℕ
+clock_most = 4294967295
 
 -- 'each of the other two totals is at most 16 times the clock'
-abbrev pub setsMost : ℕ
-setsMost = countMost
+abbrev pub sets_most : ℕ
+sets_most = count_most
 
-abbrev pub placeAt : List Place → ℕ → Place
-placeAt places i = get_or places i blank
+abbrev pub place_at : List Place → ℕ → Place
+place_at places i = get_or places i blank
 
 -- 'the state of all zeros'
 abbrev pub zeros : State
@@ -29,13 +29,13 @@ zeros =
       setting = setting_of 0 0;
       clock = 0;
       count = 0;
-      places = replicate countMost blank;
+      places = replicate count_most blank;
       totals = record { given = 0; idle = 0; tags = 0; shorts = 0 };
     }
 
 -- the first n jobs in their places, and zeros behind them
-abbrev pub freshUpto : List Job → ℕ → List Place
-freshUpto jobs n = filledUpto blank (λ i. opened (jobAt jobs i)) n
+abbrev pub fresh_upto : List Job → ℕ → List Place
+fresh_upto jobs n = filled_upto blank (λ i. opened (job_at jobs i)) n
 
 -- 'the fresh state of a list'
 abbrev pub fresh_of : JobList → Setting → State
@@ -44,6 +44,6 @@ fresh_of l s =
       setting = s;
       clock = 0;
       count = l.count;
-      places = freshUpto l.jobs (min l.count countMost);
+      places = fresh_upto l.jobs (min l.count count_most);
       totals = record { given = 0; idle = 0; tags = 0; shorts = 0 };
     }

@@ -9,104 +9,104 @@ use lib.Dec.{eqb}
 use lib.ListN.{length}
 use Rattle.job.specs.Told.{row, passed}
 use Rattle.sheet.specs.declared.reader.Reader.{Reader}
-use Rattle.sheet.specs.Form.{bytesMost}
-use Rattle.sheet.specs.Sheet.{sheetTold}
-use Rattle.sheet.specs.Reader.{byte_at, startReader, SoundReader, ownByte, fits_of, pushedOf, jobEndedOf, storedOf, advancedOf, betweenLines, readerUpto, fitsUpto}
-use Rattle.sheet.specs.Answer.{lastReader, readTold, readSheet}
+use Rattle.sheet.specs.Form.{bytes_most}
+use Rattle.sheet.specs.Sheet.{sheet_told}
+use Rattle.sheet.specs.Reader.{byte_at, start_reader, SoundReader, own_byte, fits_of, pushed_of, job_ended_of, stored_of, advanced_of, between_lines, reader_upto, fits_upto}
+use Rattle.sheet.specs.Answer.{last_reader, read_told, read_sheet}
 use Rattle.job.proofs.TestLaws.{refuted, clash}
-use Rattle.place.proofs.CondLaws.{by-test}
-use Rattle.sheet.proofs.HoldsLaws.{holds-sound}
-use Rattle.sheet.proofs.UptoLaws.{upto-holds, formFits, formed-fits, Stop, place_is}
-use Rattle.sheet.proofs.ReadLaws.{read-formed, read-formless, passed-sheet}
+use Rattle.place.proofs.CondLaws.{by_test}
+use Rattle.sheet.proofs.HoldsLaws.{holds_sound}
+use Rattle.sheet.proofs.UptoLaws.{upto_holds, form_fits, formed_fits, Stop, place_is}
+use Rattle.sheet.proofs.ReadLaws.{read_formed, read_formless, passed_sheet}
 
 -- a byte adds at most one job
 module _ (r : Reader) where
   abbrev OneMore : Reader → Type 0
   OneMore q = q.sheet.list.count ≤ r.sheet.list.count + 1
 
-  job-ended-count : OneMore (jobEndedOf r)
-  unfolding jobEndedOf pushedOf
-  job-ended-count = omega arith
+  job_ended_count : OneMore (job_ended_of r)
+  unfolding job_ended_of pushed_of
+  job_ended_count = omega arith
 
-  stored-count : (b : ℕ) → OneMore (storedOf r b)
-  unfolding storedOf
-  stored-count b =
-      by-test OneMore (eqb r.field 0) (λ e. omega arith)
-      (λ e. by-test OneMore (eqb r.field 1) (λ e. omega arith)
-      (λ e. by-test OneMore (eqb r.field 2) (λ e. omega arith)
-      (λ e. by-test OneMore (eqb r.field 3) (λ e. omega arith)
-      (λ e. by-test OneMore (eqb r.field 4) (λ e. omega arith)
-      (λ e. by-test OneMore (eqb r.field 5) (λ e. omega arith)
-      (λ e. by-test OneMore (eqb r.field 7) (λ e. omega arith) (λ e. job-ended-count)))))))
+  stored_count : (b : ℕ) → OneMore (stored_of r b)
+  unfolding stored_of
+  stored_count b =
+      by_test OneMore (eqb r.field 0) (λ e. omega arith)
+      (λ e. by_test OneMore (eqb r.field 1) (λ e. omega arith)
+      (λ e. by_test OneMore (eqb r.field 2) (λ e. omega arith)
+      (λ e. by_test OneMore (eqb r.field 3) (λ e. omega arith)
+      (λ e. by_test OneMore (eqb r.field 4) (λ e. omega arith)
+      (λ e. by_test OneMore (eqb r.field 5) (λ e. omega arith)
+      (λ e. by_test OneMore (eqb r.field 7) (λ e. omega arith) (λ e. job_ended_count)))))))
 
-  advanced-count : (b : ℕ) → OneMore (advancedOf r b)
-  unfolding advancedOf
-  advanced-count b = by-test OneMore (ownByte r b) (λ e. omega arith) (λ e. stored-count b)
+  advanced_count : (b : ℕ) → OneMore (advanced_of r b)
+  unfolding advanced_of
+  advanced_count b = by_test OneMore (own_byte r b) (λ e. omega arith) (λ e. stored_count b)
 
 module _ (bytes : List ℕ) where
-  count-upto : (n : ℕ) → (readerUpto bytes n).sheet.list.count ≤ n
-  unfolding readerUpto
-  count-upto zero = omega arith
-  count-upto (suc n) = omega (arith, advanced-count (readerUpto bytes n) (byte_at bytes n), count-upto n)
+  count_upto_lem : (n : ℕ) → (reader_upto bytes n).sheet.list.count ≤ n
+  unfolding reader_upto
+  count_upto_lem zero = omega arith
+  count_upto_lem (suc n) = omega (arith, advanced_count (reader_upto bytes n) (byte_at bytes n), count_upto_lem n)
 
   -- the reader after n bytes, all of which fitted
   pub record Along (r : Reader) (n : ℕ) : Type 0 where
-    pub reader-is : r ≡ readerUpto bytes n
-    pub fits : fitsUpto bytes n ≡ true
+    pub reader_is : r ≡ reader_upto bytes n
+    pub fits : fits_upto bytes n ≡ true
 
-  pub along-start : {r : Reader} → r ≡ startReader → Along r 0
-  unfolding readerUpto fitsUpto
-  along-start e = record { reader-is = e; fits = refl }
+  pub along_start : {r : Reader} → r ≡ start_reader → Along r 0
+  unfolding reader_upto fits_upto
+  along_start e = record { reader_is = e; fits = refl }
 
   module _ {r : Reader} {n : ℕ} (along : Along r n) where
-    pub along-sound : n ≤ length bytes → SoundReader r
-    along-sound h = rw along.reader-is (holds-sound (upto-holds bytes n h along.fits))
+    pub along_sound : n ≤ length bytes → SoundReader r
+    along_sound h = rw along.reader_is (holds_sound (upto_holds bytes n h along.fits))
 
-    pub along-count : r.sheet.list.count ≤ n
-    along-count = rw along.reader-is (count-upto n)
+    pub along_count : r.sheet.list.count ≤ n
+    along_count = rw along.reader_is (count_upto_lem n)
 
-    fits_next : (b : Bool) → fits_of r (byte_at bytes n) ≡ b → fitsUpto bytes (suc n) ≡ b
-    unfolding fitsUpto
-    fits_next b e = rw (along.fits, ← along.reader-is) e
+    fits_next : (b : Bool) → fits_of r (byte_at bytes n) ≡ b → fits_upto bytes (suc n) ≡ b
+    unfolding fits_upto
+    fits_next b e = rw (along.fits, ← along.reader_is) e
 
-    pub along-more : {q : Reader} → fits_of r (byte_at bytes n) ≡ true → q ≡ advancedOf r (byte_at bytes n) → Along q (n + 1)
-    unfolding readerUpto
-    along-more fit next =
+    pub along_more : {q : Reader} → fits_of r (byte_at bytes n) ≡ true → q ≡ advanced_of r (byte_at bytes n) → Along q (n + 1)
+    unfolding reader_upto
+    along_more fit next =
         rw (add-one n)
         record {
-          reader-is = next ∙ ap (λ (p : Reader). advancedOf p (byte_at bytes n)) along.reader-is;
+          reader_is = next ∙ ap (λ (p : Reader). advanced_of p (byte_at bytes n)) along.reader_is;
           fits = fits_next true fit;
         }
 
     stopped :
-        length bytes ≤ bytesMost → Stop bytes (length bytes) n → formFits bytes ≡ false → readTold bytes ≡ row 13 (n ∷ [])
+        length bytes ≤ bytes_most → Stop bytes (length bytes) n → form_fits bytes ≡ false → read_told bytes ≡ row 13 (n ∷ [])
     stopped short stop refused =
-        read-formless bytes short refused ∙ ap (λ (place : ℕ). row 13 (place ∷ [])) (place_is bytes stop)
+        read_formless bytes short refused ∙ ap (λ (place : ℕ). row 13 (place ∷ [])) (place_is bytes stop)
 
     -- a byte that does not fit is the place that row 13 names
-    pub along-misfit :
-        length bytes ≤ bytesMost → n < length bytes → fits_of r (byte_at bytes n) ≡ false → readTold bytes ≡ row 13 (n ∷ [])
-    along-misfit short h misfit =
+    pub along_misfit :
+        length bytes ≤ bytes_most → n < length bytes → fits_of r (byte_at bytes n) ≡ false → read_told bytes ≡ row 13 (n ∷ [])
+    along_misfit short h misfit =
         let next = fits_next false misfit in
         stopped short (record { high = omega arith; fits = along.fits; stops = λ l. next })
-        (refuted (λ formed. clash next (formed-fits bytes formed (suc n) h)))
+        (refuted (λ formed. clash next (formed_fits bytes formed (suc n) h)))
 
     -- the end of the bytes
     module _ (all : n ≡ length bytes) where
-      last-is : r ≡ lastReader bytes
-      last-is = along.reader-is ∙ ap (readerUpto bytes) all
+      last_is : r ≡ last_reader bytes
+      last_is = along.reader_is ∙ ap (reader_upto bytes) all
 
-      form-is : formFits bytes ≡ betweenLines r
-      form-is = rw (rw all at along.fits, ← last-is)
+      form_is : form_fits bytes ≡ between_lines r
+      form_is = rw (rw all at along.fits, ← last_is)
 
       -- it is the place that row 13 names, where no line has ended
-      pub along-open : length bytes ≤ bytesMost → betweenLines r ≡ false → readTold bytes ≡ row 13 (n ∷ [])
-      along-open short open-line =
-          stopped short (record { high = omega arith; fits = along.fits; stops = λ h. absurd (omega arith) }) (form-is ∙ open-line)
+      pub along_open : length bytes ≤ bytes_most → between_lines r ≡ false → read_told bytes ≡ row 13 (n ∷ [])
+      along_open short open-line =
+          stopped short (record { high = omega arith; fits = along.fits; stops = λ h. absurd (omega arith) }) (form_is ∙ open-line)
 
-      pub along-formed : length bytes ≤ bytesMost → betweenLines r ≡ true → readTold bytes ≡ sheetTold r.sheet
-      along-formed short line =
-          read-formed bytes short (form-is ∙ line) ∙ ap (λ (q : Reader). sheetTold q.sheet) (sym last-is)
+      pub along_formed : length bytes ≤ bytes_most → between_lines r ≡ true → read_told bytes ≡ sheet_told r.sheet
+      along_formed short line =
+          read_formed bytes short (form_is ∙ line) ∙ ap (λ (q : Reader). sheet_told q.sheet) (sym last_is)
 
-      pub along-sheet : readTold bytes ≡ passed → r.sheet ≡ readSheet bytes
-      along-sheet e = ap (λ (q : Reader). q.sheet) last-is ∙ passed-sheet bytes e
+      pub along_sheet : read_told bytes ≡ passed → r.sheet ≡ read_sheet bytes
+      along_sheet e = ap (λ (q : Reader). q.sheet) last_is ∙ passed_sheet bytes e

@@ -12,24 +12,24 @@ use lib.ListN.{length, take, get_or}
 use borrow.Author.Tests.{eq-eqb, ne_eqb, lt-ltb, le-ltb}
 use Rattle.job.specs.declared.record.Job.{Job}
 use Rattle.job.specs.declared.list.JobList.{JobList}
-use Rattle.job.specs.Limit.{countMost}
+use Rattle.job.specs.Limit.{count_most}
 use Rattle.job.specs.Told.{Told, row, passed}
-use Rattle.job.specs.Check.{listTold}
-use Rattle.job.specs.Filled.{emptyList}
-use Rattle.job.specs.Sound.{Within, SoundList, FaultOf, t-fault, c-fault, k-fault, m-fault, LowestFault}
+use Rattle.job.specs.Check.{list_told}
+use Rattle.job.specs.Filled.{empty_list}
+use Rattle.job.specs.Sound.{Within, SoundList, FaultOf, t_fault, c_fault, k_fault, m_fault, LowestFault}
 use Rattle.job.proofs.TestLaws.{refuted, clash}
-use Rattle.job.proofs.Meaning.{ListView, no-jobs, many-jobs, sound-list, faulty-list, list-view, passes-exactly, row-one-exactly as list-one, row-two-exactly as list-two, job-rows-exactly as list-jobs}
+use Rattle.job.proofs.Meaning.{ListView, no_jobs, many_jobs, sound_list, faulty_list, list_view, passes_exactly, row_one_exactly as list-one, row_two_exactly as list-two, job_rows_exactly as list-jobs}
 use Rattle.place.specs.declared.setting.Setting.{Setting}
 use Rattle.sheet.specs.declared.reading.Sheet.{Sheet}
-use Rattle.sheet.specs.Form.{bytesMost, slotsMost, SheetOf, IsSheet, Begins, formList}
-use Rattle.sheet.specs.Sheet.{blankSheet, sheetTold}
-use Rattle.sheet.specs.Reader.{placeUpto, sheetOf}
-use Rattle.sheet.specs.Answer.{readTold, readSheet}
-use Rattle.sheet.specs.Meaning.{StopsAt, Formed, Listed, ReadAnswer, passes, row_one, row-two, job-row, row-thirteen, row-sixteen, row-seventeen, Returned, AllZeros, BlankZeros, ReadTold, ReadsExactly}
-use Rattle.sheet.proofs.PushedLaws.{pushedAll, all-kept, pushed-told}
-use Rattle.sheet.proofs.UptoLaws.{fits-begins, begins-fits, last-sheet, formFits, fits-sheet, sheet-fits, formed-fits, Stop, place-stop, place_is}
-use Rattle.sheet.proofs.ReadLaws.{read-long, read-formed, read-formless, passed-sheet}
-use Rattle.sheet.proofs.FormLaws.{values-determined}
+use Rattle.sheet.specs.Form.{bytes_most, slots_most, SheetOf, IsSheet, Begins, form_list}
+use Rattle.sheet.specs.Sheet.{blank_sheet, sheet_told}
+use Rattle.sheet.specs.Reader.{place_upto, sheet_of}
+use Rattle.sheet.specs.Answer.{read_told, read_sheet}
+use Rattle.sheet.specs.Meaning.{StopsAt, Formed, Listed, ReadAnswer, passes, row_one, row_two, job_row, row_thirteen, row_sixteen, row_seventeen, Returned, AllZeros, BlankZeros, ReadTold, ReadsExactly}
+use Rattle.sheet.proofs.PushedLaws.{pushed_all, all_kept, pushed_told}
+use Rattle.sheet.proofs.UptoLaws.{fits_begins, begins_fits, last_sheet, form_fits, fits_sheet, sheet_fits, formed_fits, Stop, place_stop, place_is}
+use Rattle.sheet.proofs.ReadLaws.{read_long, read_formed, read_formless, passed_sheet}
+use Rattle.sheet.proofs.FormLaws.{values_determined}
 
 -- the place
 abbrev Stopping : List ℕ → ℕ → Type 0
@@ -37,65 +37,65 @@ Stopping bytes place =
     ((place < length bytes) × (Begins (take (place + 1) bytes) → ⊥)) ⊎ ((place ≡ length bytes) × (IsSheet bytes → ⊥))
 
 module _ (bytes : List ℕ) where
-  stop-stops :
-      {place : ℕ} → Stop bytes (length bytes) place → formFits bytes ≡ false → StopsAt bytes place
-  stop-stops {place} stop refused =
-      record { begins = fits-begins bytes place stop.high stop.fits; stops = go (dec_lt place (length bytes)) }
+  stop_stops :
+      {place : ℕ} → Stop bytes (length bytes) place → form_fits bytes ≡ false → StopsAt bytes place
+  stop_stops {place} stop refused =
+      record { begins = fits_begins bytes place stop.high stop.fits; stops = go (dec_lt place (length bytes)) }
     where
       go : Dec (place < length bytes) → Stopping bytes place
-      go (yes h) = inl (h, λ begins. clash (stop.stops h) (begins-fits bytes (suc place) h (rw add-one at begins)))
-      go (no h) = inr (omega (arith, stop.high), λ is. clash refused (sheet-fits bytes is))
+      go (yes h) = inl (h, λ begins. clash (stop.stops h) (begins_fits bytes (suc place) h (rw add-one at begins)))
+      go (no h) = inr (omega (arith, stop.high), λ is. clash refused (sheet_fits bytes is))
 
   module _ {place : ℕ} (at : StopsAt bytes place) where
-    stops-stop : Stop bytes (length bytes) place
-    stops-stop = go at.stops
+    stops_stop : Stop bytes (length bytes) place
+    stops_stop = go at.stops
       where
         go : Stopping bytes place → Stop bytes (length bytes) place
         go (inl short) =
             record {
               high = omega arith;
-              fits = begins-fits bytes place (omega arith) at.begins;
-              stops = λ h. refuted (λ fits. short.1 (rw add-one (fits-begins bytes (suc place) h fits)));
+              fits = begins_fits bytes place (omega arith) at.begins;
+              stops = λ h. refuted (λ fits. short.1 (rw add-one (fits_begins bytes (suc place) h fits)));
             }
         go (inr whole) =
             record {
               high = omega arith;
-              fits = begins-fits bytes place (omega arith) at.begins;
+              fits = begins_fits bytes place (omega arith) at.begins;
               stops = λ h. absurd (omega arith);
             }
 
-    stops-refused : formFits bytes ≡ false
-    stops-refused = refuted (go at.stops)
+    stops_refused : form_fits bytes ≡ false
+    stops_refused = refuted (go at.stops)
       where
-        go : Stopping bytes place → formFits bytes ≡ true → ⊥
+        go : Stopping bytes place → form_fits bytes ≡ true → ⊥
         go (inl short) fits =
-            clash (stops-stop.stops short.0) (formed-fits bytes fits (suc place) short.0)
-        go (inr whole) fits = whole.1 (fits-sheet bytes fits)
+            clash (stops_stop.stops short.0) (formed_fits bytes fits (suc place) short.0)
+        go (inr whole) fits = whole.1 (fits_sheet bytes fits)
 
 -- the slot count and the list of a sheet of the form
 abbrev WrongCount : ℕ → Type 0
-WrongCount slots = (slots ≡ 0) ⊎ (slotsMost < slots)
+WrongCount slots = (slots ≡ 0) ⊎ (slots_most < slots)
 
 module _ (s : Sheet) where
-  slots-refused : WrongCount s.slots → sheetTold s ≡ row 16 []
-  unfolding sheetTold
-  slots-refused (inl none) = rw (eq-eqb s.slots 0 none)
-  slots-refused (inr many) = rw (lt-ltb slotsMost s.slots many, or-true)
+  slots_refused : WrongCount s.slots → sheet_told s ≡ row 16 []
+  unfolding sheet_told
+  slots_refused (inl none) = rw (eq-eqb s.slots 0 none)
+  slots_refused (inr many) = rw (lt-ltb slots_most s.slots many, or-true)
 
-  slots-pass : Within s.slots slotsMost → sheetTold s ≡ listTold s.list
-  unfolding sheetTold
-  slots-pass within =
-      rw (ne_eqb s.slots 0 (omega (arith, within.low)), le-ltb slotsMost s.slots within.high)
+  slots_pass : Within s.slots slots_most → sheet_told s ≡ list_told s.list
+  unfolding sheet_told
+  slots_pass within =
+      rw (ne_eqb s.slots 0 (omega (arith, within.low)), le-ltb slots_most s.slots within.high)
 
-module _ (bytes : List ℕ) (short : length bytes ≤ bytesMost) (is : IsSheet bytes) where
-  read-form : readTold bytes ≡ sheetTold (sheetOf is.setting is.slots (pushedAll (emptyList 0) is.jobs))
-  read-form = read-formed bytes short (sheet-fits bytes is) ∙ ap sheetTold (last-sheet bytes is.is)
+module _ (bytes : List ℕ) (short : length bytes ≤ bytes_most) (is : IsSheet bytes) where
+  read_form : read_told bytes ≡ sheet_told (sheet_of is.setting is.slots (pushed_all (empty_list 0) is.jobs))
+  read_form = read_formed bytes short (sheet_fits bytes is) ∙ ap sheet_told (last_sheet bytes is.is)
 
-  read-slots : WrongCount is.slots → readTold bytes ≡ row 16 []
-  read-slots wrong = read-form ∙ slots-refused _ wrong
+  read_slots : WrongCount is.slots → read_told bytes ≡ row 16 []
+  read_slots wrong = read_form ∙ slots_refused _ wrong
 
-  read-list : Within is.slots slotsMost → readTold bytes ≡ listTold (formList is.jobs)
-  read-list within = read-form ∙ slots-pass _ within ∙ pushed-told is.jobs
+  read_list : Within is.slots slots_most → read_told bytes ≡ list_told (form_list is.jobs)
+  read_list within = read_form ∙ slots_pass _ within ∙ pushed_told is.jobs
 
 -- the whole read, by its tests
 module _ (bytes : List ℕ) where
@@ -103,192 +103,192 @@ module _ (bytes : List ℕ) where
   SlotsWrong = Formed bytes (λ (slots : ℕ) (jobs : List Job). WrongCount slots)
 
   abbrev ListedAs : Type 0
-  ListedAs = Listed bytes (λ (l : JobList). readTold bytes ≡ listTold l)
+  ListedAs = Listed bytes (λ (l : JobList). read_told bytes ≡ list_told l)
 
   data ReadView : Type 0 where
-    too_long : bytesMost < length bytes → readTold bytes ≡ row 17 [] → ReadView
-    formless : (place : ℕ) → length bytes ≤ bytesMost → StopsAt bytes place → readTold bytes ≡ row 13 (place ∷ []) → ReadView
-    slots-wrong : SlotsWrong → readTold bytes ≡ row 16 [] → ReadView
+    too_long : bytes_most < length bytes → read_told bytes ≡ row 17 [] → ReadView
+    formless : (place : ℕ) → length bytes ≤ bytes_most → StopsAt bytes place → read_told bytes ≡ row 13 (place ∷ []) → ReadView
+    slots_wrong : SlotsWrong → read_told bytes ≡ row 16 [] → ReadView
     listed : ListedAs → ReadView
 
   read_view : ReadView
-  read_view = go (dec_lt bytesMost (length bytes)) (formFits bytes) refl
+  read_view = go (dec_lt bytes_most (length bytes)) (form_fits bytes) refl
     where
-      by_slots : length bytes ≤ bytesMost → (is : IsSheet bytes) → Dec (0 < is.slots) → Dec (slotsMost < is.slots) → ReadView
+      by_slots : length bytes ≤ bytes_most → (is : IsSheet bytes) → Dec (0 < is.slots) → Dec (slots_most < is.slots) → ReadView
       by_slots short is (no none) _ =
           let wrong : WrongCount is.slots = inl (omega arith) in
-          slots-wrong (record { short = short; sheet = is; fact = wrong }) (read-slots bytes short is wrong)
+          slots_wrong (record { short = short; sheet = is; fact = wrong }) (read_slots bytes short is wrong)
       by_slots short is (yes some) (yes many) =
-          slots-wrong (record { short = short; sheet = is; fact = inr many }) (read-slots bytes short is (inr many))
+          slots_wrong (record { short = short; sheet = is; fact = inr many }) (read_slots bytes short is (inr many))
       by_slots short is (yes some) (no few) =
-          let within : Within is.slots slotsMost = record { low = some; high = omega arith } in
-          listed (record { short = short; sheet = is; fact = (within, read-list bytes short is within) })
+          let within : Within is.slots slots_most = record { low = some; high = omega arith } in
+          listed (record { short = short; sheet = is; fact = (within, read_list bytes short is within) })
 
-      go : Dec (bytesMost < length bytes) → (fits : Bool) → formFits bytes ≡ fits → ReadView
-      go (yes long) fits e = too_long long (read-long bytes long)
+      go : Dec (bytes_most < length bytes) → (fits : Bool) → form_fits bytes ≡ fits → ReadView
+      go (yes long) fits e = too_long long (read_long bytes long)
       go (no h) false e =
-          let short : length bytes ≤ bytesMost = omega arith in
-          formless (placeUpto bytes (length bytes)) short (stop-stops bytes (place-stop bytes (length bytes)) e) (read-formless bytes short e)
+          let short : length bytes ≤ bytes_most = omega arith in
+          formless (place_upto bytes (length bytes)) short (stop_stops bytes (place_stop bytes (length bytes)) e) (read_formless bytes short e)
       go (no h) true e =
-          let is = fits-sheet bytes e in by_slots (omega arith) is (dec_lt 0 is.slots) (dec_lt slotsMost is.slots)
+          let is = fits_sheet bytes e in by_slots (omega arith) is (dec_lt 0 is.slots) (dec_lt slots_most is.slots)
 
 -- rows 3 to 6, and all answers to a list
-fault-row : {j : Job} {r : ℕ} → FaultOf j r → (3 ≤ r) × (r ≤ 6)
-fault-row (t-fault _) = (omega arith, omega arith)
-fault-row (c-fault _ _) = (omega arith, omega arith)
-fault-row (k-fault _ _ _) = (omega arith, omega arith)
-fault-row (m-fault _ _ _ _) = (omega arith, omega arith)
+fault_row : {j : Job} {r : ℕ} → FaultOf j r → (3 ≤ r) × (r ≤ 6)
+fault_row (t_fault _) = (omega arith, omega arith)
+fault_row (c_fault _ _) = (omega arith, omega arith)
+fault_row (k_fault _ _ _) = (omega arith, omega arith)
+fault_row (m_fault _ _ _ _) = (omega arith, omega arith)
 
 abbrev ListAnswer : Told → Type 0
 ListAnswer t = (t.number ≤ 6) × ReadAnswer t
 
-list-answer : (l : JobList) → ListAnswer (listTold l)
-list-answer l = go (list-view l)
+list_answer : (l : JobList) → ListAnswer (list_told l)
+list_answer l = go (list_view l)
   where
-    go : ListView l → ListAnswer (listTold l)
-    go (no-jobs none) = rw ((list-one l).1 none) (omega arith, row_one)
-    go (many-jobs many) = rw ((list-two l).1 many) (omega arith, row-two)
-    go (sound-list sound) = rw ((passes-exactly l).1 sound) (omega arith, passes)
-    go (faulty-list r i lowest) =
-        let rows = fault-row lowest.fault in rw ((list-jobs l r i).1 lowest) (rows.1, job-row r i rows.0 rows.1)
+    go : ListView l → ListAnswer (list_told l)
+    go (no_jobs none) = rw ((list-one l).1 none) (omega arith, row_one)
+    go (many_jobs many) = rw ((list-two l).1 many) (omega arith, row_two)
+    go (sound_list sound) = rw ((passes_exactly l).1 sound) (omega arith, passes)
+    go (faulty_list r i lowest) =
+        let rows = fault_row lowest.fault in rw ((list-jobs l r i).1 lowest) (rows.1, job_row r i rows.0 rows.1)
 
 module _ (bytes : List ℕ) where
-  listed_answer : ListedAs bytes → ListAnswer (readTold bytes)
-  listed_answer f = rw f.fact.1 (list-answer (formList f.sheet.jobs))
+  listed_answer : ListedAs bytes → ListAnswer (read_told bytes)
+  listed_answer f = rw f.fact.1 (list_answer (form_list f.sheet.jobs))
 
-  number_same : {t u : Told} → readTold bytes ≡ t → readTold bytes ≡ u → t.number ≡ u.number
+  number_same : {t u : Told} → read_told bytes ≡ t → read_told bytes ≡ u → t.number ≡ u.number
   number_same e f = ap (λ (x : Told). x.number) (sym e ∙ f)
 
 -- 17, 13, 16
-row-seventeen-exactly : (bytes : List ℕ) → (readTold bytes ≡ row 17 []) ↔ (bytesMost < length bytes)
-row-seventeen-exactly bytes = (go (read_view bytes), read-long bytes)
+row_seventeen_exactly : (bytes : List ℕ) → (read_told bytes ≡ row 17 []) ↔ (bytes_most < length bytes)
+row_seventeen_exactly bytes = (go (read_view bytes), read_long bytes)
   where
-    go : ReadView bytes → readTold bytes ≡ row 17 [] → bytesMost < length bytes
+    go : ReadView bytes → read_told bytes ≡ row 17 [] → bytes_most < length bytes
     go (too_long long _) e = long
     go (formless _ _ _ told) e = absurd (omega (arith, number_same bytes told e))
-    go (slots-wrong _ told) e = absurd (omega (arith, number_same bytes told e))
+    go (slots_wrong _ told) e = absurd (omega (arith, number_same bytes told e))
     go (listed f) e = absurd (omega (arith, rw e at (listed_answer bytes f).0))
 
-row-thirteen-exactly :
-    (bytes : List ℕ) (place : ℕ) → (readTold bytes ≡ row 13 (place ∷ [])) ↔ ((length bytes ≤ bytesMost) × StopsAt bytes place)
-row-thirteen-exactly bytes place = (go (read_view bytes), back)
+row_thirteen_exactly :
+    (bytes : List ℕ) (place : ℕ) → (read_told bytes ≡ row 13 (place ∷ [])) ↔ ((length bytes ≤ bytes_most) × StopsAt bytes place)
+row_thirteen_exactly bytes place = (go (read_view bytes), back)
   where
-    go : ReadView bytes → readTold bytes ≡ row 13 (place ∷ []) → (length bytes ≤ bytesMost) × StopsAt bytes place
+    go : ReadView bytes → read_told bytes ≡ row 13 (place ∷ []) → (length bytes ≤ bytes_most) × StopsAt bytes place
     go (too_long _ told) e = absurd (omega (arith, number_same bytes told e))
     go (formless at short stops told) e =
         (short, subst (StopsAt bytes) (ap (λ (t : Told). get_or t.values 0 0) (sym told ∙ e)) stops)
-    go (slots-wrong _ told) e = absurd (omega (arith, number_same bytes told e))
+    go (slots_wrong _ told) e = absurd (omega (arith, number_same bytes told e))
     go (listed f) e = absurd (omega (arith, rw e at (listed_answer bytes f).0))
 
-    back : (length bytes ≤ bytesMost) × StopsAt bytes place → readTold bytes ≡ row 13 (place ∷ [])
+    back : (length bytes ≤ bytes_most) × StopsAt bytes place → read_told bytes ≡ row 13 (place ∷ [])
     back h =
-        read-formless bytes h.0 (stops-refused bytes h.1)
-        ∙ ap (λ (p : ℕ). row 13 (p ∷ [])) (place_is bytes (stops-stop bytes h.1))
+        read_formless bytes h.0 (stops_refused bytes h.1)
+        ∙ ap (λ (p : ℕ). row 13 (p ∷ [])) (place_is bytes (stops_stop bytes h.1))
 
-row-sixteen-exactly : (bytes : List ℕ) → (readTold bytes ≡ row 16 []) ↔ SlotsWrong bytes
-row-sixteen-exactly bytes = (go (read_view bytes), λ f. read-slots bytes f.short f.sheet f.fact)
+row_sixteen_exactly : (bytes : List ℕ) → (read_told bytes ≡ row 16 []) ↔ SlotsWrong bytes
+row_sixteen_exactly bytes = (go (read_view bytes), λ f. read_slots bytes f.short f.sheet f.fact)
   where
-    go : ReadView bytes → readTold bytes ≡ row 16 [] → SlotsWrong bytes
+    go : ReadView bytes → read_told bytes ≡ row 16 [] → SlotsWrong bytes
     go (too_long _ told) e = absurd (omega (arith, number_same bytes told e))
     go (formless _ _ _ told) e = absurd (omega (arith, number_same bytes told e))
-    go (slots-wrong f _) e = f
+    go (slots_wrong f _) e = f
     go (listed f) e = absurd (omega (arith, rw e at (listed_answer bytes f).0))
 
 -- 1 to 6, and none: what the check of the form's list answers
-list-exactly :
-    (bytes : List ℕ) (t : Told) (Fact : JobList → Type 0) → t.number ≤ 6 → ((l : JobList) → (listTold l ≡ t) ↔ Fact l)
-    → (readTold bytes ≡ t) ↔ Listed bytes Fact
-list-exactly bytes t Fact low exactly = (go (read_view bytes), back)
+list_exactly :
+    (bytes : List ℕ) (t : Told) (Fact : JobList → Type 0) → t.number ≤ 6 → ((l : JobList) → (list_told l ≡ t) ↔ Fact l)
+    → (read_told bytes ≡ t) ↔ Listed bytes Fact
+list_exactly bytes t Fact low exactly = (go (read_view bytes), back)
   where
-    go : ReadView bytes → readTold bytes ≡ t → Listed bytes Fact
+    go : ReadView bytes → read_told bytes ≡ t → Listed bytes Fact
     go (too_long _ told) e = absurd (omega (arith, number_same bytes told e))
     go (formless _ _ _ told) e = absurd (omega (arith, number_same bytes told e))
-    go (slots-wrong _ told) e = absurd (omega (arith, number_same bytes told e))
+    go (slots_wrong _ told) e = absurd (omega (arith, number_same bytes told e))
     go (listed f) e =
         record {
           short = f.short;
           sheet = f.sheet;
-          fact = (f.fact.0, (exactly (formList f.sheet.jobs)).0 (sym f.fact.1 ∙ e));
+          fact = (f.fact.0, (exactly (form_list f.sheet.jobs)).0 (sym f.fact.1 ∙ e));
         }
 
-    back : Listed bytes Fact → readTold bytes ≡ t
+    back : Listed bytes Fact → read_told bytes ≡ t
     back f =
-        read-list bytes f.short f.sheet f.fact.0 ∙ (exactly (formList f.sheet.jobs)).1 f.fact.1
+        read_list bytes f.short f.sheet f.fact.0 ∙ (exactly (form_list f.sheet.jobs)).1 f.fact.1
 
-row-one-exactly : (bytes : List ℕ) → (readTold bytes ≡ row 1 []) ↔ Listed bytes (λ (l : JobList). l.count ≡ 0)
-row-one-exactly bytes = list-exactly bytes (row 1 []) (λ (l : JobList). l.count ≡ 0) (omega arith) list-one
+row_one_exactly : (bytes : List ℕ) → (read_told bytes ≡ row 1 []) ↔ Listed bytes (λ (l : JobList). l.count ≡ 0)
+row_one_exactly bytes = list_exactly bytes (row 1 []) (λ (l : JobList). l.count ≡ 0) (omega arith) list-one
 
-row-two-exactly : (bytes : List ℕ) → (readTold bytes ≡ row 2 []) ↔ Listed bytes (λ (l : JobList). countMost < l.count)
-row-two-exactly bytes = list-exactly bytes (row 2 []) (λ (l : JobList). countMost < l.count) (omega arith) list-two
+row_two_exactly : (bytes : List ℕ) → (read_told bytes ≡ row 2 []) ↔ Listed bytes (λ (l : JobList). count_most < l.count)
+row_two_exactly bytes = list_exactly bytes (row 2 []) (λ (l : JobList). count_most < l.count) (omega arith) list-two
 
-job-rows-exactly :
-    (bytes : List ℕ) (n i : ℕ) → n ≤ 6 → (readTold bytes ≡ row n (i ∷ [])) ↔ Listed bytes (λ (l : JobList). LowestFault l n i)
-job-rows-exactly bytes n i low =
-    list-exactly bytes (row n (i ∷ [])) (λ (l : JobList). LowestFault l n i) low (λ l. list-jobs l n i)
+job_rows_exactly :
+    (bytes : List ℕ) (n i : ℕ) → n ≤ 6 → (read_told bytes ≡ row n (i ∷ [])) ↔ Listed bytes (λ (l : JobList). LowestFault l n i)
+job_rows_exactly bytes n i low =
+    list_exactly bytes (row n (i ∷ [])) (λ (l : JobList). LowestFault l n i) low (λ l. list-jobs l n i)
 
-read-passes-exactly : (bytes : List ℕ) → (readTold bytes ≡ passed) ↔ Listed bytes SoundList
-read-passes-exactly bytes = list-exactly bytes passed SoundList (omega arith) passes-exactly
+read_passes_exactly : (bytes : List ℕ) → (read_told bytes ≡ passed) ↔ Listed bytes SoundList
+read_passes_exactly bytes = list_exactly bytes passed SoundList (omega arith) passes_exactly
 
-no-other-row : (bytes : List ℕ) → ReadAnswer (readTold bytes)
-no-other-row bytes = go (read_view bytes)
+no_other_row : (bytes : List ℕ) → ReadAnswer (read_told bytes)
+no_other_row bytes = go (read_view bytes)
   where
-    go : ReadView bytes → ReadAnswer (readTold bytes)
-    go (too_long _ told) = rw told row-seventeen
-    go (formless place _ _ told) = rw told (row-thirteen place)
-    go (slots-wrong _ told) = rw told row-sixteen
+    go : ReadView bytes → ReadAnswer (read_told bytes)
+    go (too_long _ told) = rw told row_seventeen
+    go (formless place _ _ told) = rw told (row_thirteen place)
+    go (slots_wrong _ told) = rw told row_sixteen
     go (listed f) = (listed_answer bytes f).1
 
 -- the sheet beside the answer
-values-read :
-    (bytes : List ℕ) (s : Setting) (slots : ℕ) (jobs : List Job) → SheetOf bytes s slots jobs → readTold bytes ≡ passed
-    → Returned (readSheet bytes) s slots jobs
-values-read bytes s slots jobs is e =
-    let f = (read-passes-exactly bytes).0 e in
-    let same = (values-determined bytes s f.sheet.setting slots f.sheet.slots jobs f.sheet.jobs is f.sheet.is).2 in
-    let few : length jobs ≤ countMost = rw same f.fact.1.count.high in
-    let kept = all-kept jobs few in
-    subst (λ (sheet : Sheet). Returned sheet s slots jobs) (sym (last-sheet bytes is) ∙ passed-sheet bytes e)
+values_read :
+    (bytes : List ℕ) (s : Setting) (slots : ℕ) (jobs : List Job) → SheetOf bytes s slots jobs → read_told bytes ≡ passed
+    → Returned (read_sheet bytes) s slots jobs
+values_read bytes s slots jobs is e =
+    let f = (read_passes_exactly bytes).0 e in
+    let same = (values_determined bytes s f.sheet.setting slots f.sheet.slots jobs f.sheet.jobs is f.sheet.is).2 in
+    let few : length jobs ≤ count_most = rw same f.fact.1.count.high in
+    let kept = all_kept jobs few in
+    subst (λ (sheet : Sheet). Returned sheet s slots jobs) (sym (last_sheet bytes is) ∙ passed_sheet bytes e)
     (record {
-      setting-is = refl;
-      slots-is = refl;
-      count-is = ap (λ (l : JobList). l.count) kept;
-      jobs-are = ap (λ (l : JobList). l.jobs) kept;
+      setting_is = refl;
+      slots_is = refl;
+      count_is = ap (λ (l : JobList). l.count) kept;
+      jobs_are = ap (λ (l : JobList). l.jobs) kept;
     })
 
-blank-is-zeros : AllZeros blankSheet
-blank-is-zeros = record { order = refl; model = refl; spare = refl; slots = refl; count = refl; jobs = refl }
+blank_is_zeros : AllZeros blank_sheet
+blank_is_zeros = record { order = refl; model = refl; spare = refl; slots = refl; count = refl; jobs = refl }
 
 refuses : {t : Told} → ReadAnswer t → ¬ (t ≡ passed) → eqb t.number 0 ≡ false
 refuses passes never = absurd (never refl)
 refuses row_one never = refl
-refuses row-two never = refl
-refuses (job-row n i low high) never = ne_eqb n 0 (omega arith)
-refuses (row-thirteen place) never = refl
-refuses row-sixteen never = refl
-refuses row-seventeen never = refl
+refuses row_two never = refl
+refuses (job_row n i low high) never = ne_eqb n 0 (omega arith)
+refuses (row_thirteen place) never = refl
+refuses row_sixteen never = refl
+refuses row_seventeen never = refl
 
-refused-blank : (bytes : List ℕ) → ¬ (readTold bytes ≡ passed) → AllZeros (readSheet bytes)
-unfolding readSheet
-refused-blank bytes never = rw (refuses (no-other-row bytes) never) blank-is-zeros
+refused_blank : (bytes : List ℕ) → ¬ (read_told bytes ≡ passed) → AllZeros (read_sheet bytes)
+unfolding read_sheet
+refused_blank bytes never = rw (refuses (no_other_row bytes) never) blank_is_zeros
 
 -- the statements, of whatever result the promises allow
-pub blank-zeros : BlankZeros
-blank-zeros r promise = subst AllZeros (sym promise) blank-is-zeros
+pub blank_zeros : BlankZeros
+blank_zeros r promise = subst AllZeros (sym promise) blank_is_zeros
 
-read_told : (bytes : List ℕ) → ReadTold bytes (readTold bytes) (readSheet bytes)
-read_told bytes =
+read_told_lem : (bytes : List ℕ) → ReadTold bytes (read_told bytes) (read_sheet bytes)
+read_told_lem bytes =
     record {
-      seventeen = row-seventeen-exactly bytes;
-      thirteen = row-thirteen-exactly bytes;
-      sixteen = row-sixteen-exactly bytes;
-      one = row-one-exactly bytes;
-      two = row-two-exactly bytes;
-      of-job = job-rows-exactly bytes;
-      passing = read-passes-exactly bytes;
-      no_other = no-other-row bytes;
-      values = values-read bytes;
-      refused = refused-blank bytes;
+      seventeen = row_seventeen_exactly bytes;
+      thirteen = row_thirteen_exactly bytes;
+      sixteen = row_sixteen_exactly bytes;
+      one = row_one_exactly bytes;
+      two = row_two_exactly bytes;
+      of_job = job_rows_exactly bytes;
+      passing = read_passes_exactly bytes;
+      no_other = no_other_row bytes;
+      values = values_read bytes;
+      refused = refused_blank bytes;
     }
 
-pub reads-exactly : ReadsExactly
-reads-exactly bytes r promise = rw (promise.0, promise.1) (read_told bytes)
+pub reads_exactly : ReadsExactly
+reads_exactly bytes r promise = rw (promise.0, promise.1) (read_told_lem bytes)

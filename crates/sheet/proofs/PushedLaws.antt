@@ -11,64 +11,64 @@ use lib.Seq.{append_snoc, set-append_seam}
 use borrow.Author.Tests.{lt-ltb}
 use Rattle.job.specs.declared.record.Job.{Job}
 use Rattle.job.specs.declared.list.JobList.{JobList}
-use Rattle.job.specs.Limit.{countMost}
-use Rattle.job.specs.Check.{noJob, listTold}
-use Rattle.job.specs.Filled.{emptyList}
-use Rattle.job.proofs.Meaning.{row-two-exactly}
-use Rattle.job.proofs.AlikeLaws.{list-alike}
-use Rattle.sheet.specs.Form.{formList}
-use Rattle.sheet.specs.Reader.{pushedOf}
+use Rattle.job.specs.Limit.{count_most}
+use Rattle.job.specs.Check.{no_job, list_told}
+use Rattle.job.specs.Filled.{empty_list}
+use Rattle.job.proofs.Meaning.{row_two_exactly}
+use Rattle.job.proofs.AlikeLaws.{list_alike}
+use Rattle.sheet.specs.Form.{form_list}
+use Rattle.sheet.specs.Reader.{pushed_of}
 
-unfoldable pub pushedAll : JobList → List Job → JobList
-pushedAll l [] = l
-pushedAll l (j ∷ jobs) = pushedAll (pushedOf l j) jobs
+unfoldable pub pushed_all : JobList → List Job → JobList
+pushed_all l [] = l
+pushed_all l (j ∷ jobs) = pushed_all (pushed_of l j) jobs
 
 -- the last of the jobs, or the one before them
-unfoldable pub lastJob : Job → List Job → Job
-lastJob job [] = job
-lastJob job (j ∷ jobs) = lastJob j jobs
+unfoldable pub last_job : Job → List Job → Job
+last_job job [] = job
+last_job job (j ∷ jobs) = last_job j jobs
 
-all-count : (l : JobList) (jobs : List Job) → (pushedAll l jobs).count ≡ l.count + length jobs
-unfolding pushedAll pushedOf
-all-count l [] = omega arith
-all-count l (j ∷ jobs) = omega (arith, all-count (pushedOf l j) jobs)
+all_count : (l : JobList) (jobs : List Job) → (pushed_all l jobs).count ≡ l.count + length jobs
+unfolding pushed_all pushed_of
+all_count l [] = omega arith
+all_count l (j ∷ jobs) = omega (arith, all_count (pushed_of l j) jobs)
 
 -- jobs from the first record on, and n records of zeros behind them
 abbrev padded : List Job → ℕ → JobList
-padded jobs n = record { jobs = jobs ++ replicate n noJob; count = length jobs }
+padded jobs n = record { jobs = jobs ++ replicate n no_job; count = length jobs }
 
-pushed-padded :
-    (before : List Job) (j : Job) (n : ℕ) → length before < countMost
-    → pushedOf (padded before (suc n)) j ≡ padded (before ++ (j ∷ [])) n
-unfolding pushedOf
-pushed-padded before j n room =
-    let stored = set-append_seam before noJob (replicate n noJob) j ∙ sym (append_snoc before j (replicate n noJob)) in
-    rw (lt-ltb (length before) countMost room)
+pushed_padded :
+    (before : List Job) (j : Job) (n : ℕ) → length before < count_most
+    → pushed_of (padded before (suc n)) j ≡ padded (before ++ (j ∷ [])) n
+unfolding pushed_of
+pushed_padded before j n room =
+    let stored = set-append_seam before no_job (replicate n no_job) j ∙ sym (append_snoc before j (replicate n no_job)) in
+    rw (lt-ltb (length before) count_most room)
     (λ i. record { jobs = stored i; count = sym (length-append before (j ∷ [])) i })
 
-all-padded :
-    (before jobs : List Job) (n : ℕ) → length before + n ≡ countMost → length jobs ≤ n
-    → pushedAll (padded before n) jobs ≡ padded (before ++ jobs) (n - length jobs)
-unfolding pushedAll
-all-padded before [] n room few = rw (append-nil before, sub-zero n)
-all-padded before (j ∷ jobs) zero room few = absurd (omega arith)
-all-padded before (j ∷ jobs) (suc n) room few =
-    ap (λ (l : JobList). pushedAll l jobs) (pushed-padded before j n (omega arith))
-    ∙ all-padded (before ++ (j ∷ [])) jobs n (omega (arith, length-append before (j ∷ []))) (omega arith)
+all_padded :
+    (before jobs : List Job) (n : ℕ) → length before + n ≡ count_most → length jobs ≤ n
+    → pushed_all (padded before n) jobs ≡ padded (before ++ jobs) (n - length jobs)
+unfolding pushed_all
+all_padded before [] n room few = rw (append-nil before, sub-zero n)
+all_padded before (j ∷ jobs) zero room few = absurd (omega arith)
+all_padded before (j ∷ jobs) (suc n) room few =
+    ap (λ (l : JobList). pushed_all l jobs) (pushed_padded before j n (omega arith))
+    ∙ all_padded (before ++ (j ∷ [])) jobs n (omega (arith, length-append before (j ∷ []))) (omega arith)
     ∙ rw (append_snoc before j jobs, suc-sub-suc n (length jobs))
 
-pub all-kept : (jobs : List Job) → length jobs ≤ countMost → pushedAll (emptyList 0) jobs ≡ padded jobs (countMost - length jobs)
-all-kept jobs few = all-padded [] jobs countMost refl few
+pub all_kept : (jobs : List Job) → length jobs ≤ count_most → pushed_all (empty_list 0) jobs ≡ padded jobs (count_most - length jobs)
+all_kept jobs few = all_padded [] jobs count_most refl few
 
 -- the check reads no record behind the jobs
-rest-told : (jobs rest : List Job) → listTold (record { jobs = jobs ++ rest; count = length jobs }) ≡ listTold (formList jobs)
-rest-told jobs rest = list-alike (jobs ++ rest) jobs (length jobs) (λ i h. get_or-append jobs rest noJob i (omega arith))
+rest_told : (jobs rest : List Job) → list_told (record { jobs = jobs ++ rest; count = length jobs }) ≡ list_told (form_list jobs)
+rest_told jobs rest = list_alike (jobs ++ rest) jobs (length jobs) (λ i h. get_or-append jobs rest no_job i (omega arith))
 
-pub pushed-told : (jobs : List Job) → listTold (pushedAll (emptyList 0) jobs) ≡ listTold (formList jobs)
-pushed-told jobs = go (dec_lt countMost (length jobs))
+pub pushed_told : (jobs : List Job) → list_told (pushed_all (empty_list 0) jobs) ≡ list_told (form_list jobs)
+pushed_told jobs = go (dec_lt count_most (length jobs))
   where
-    go : Dec (countMost < length jobs) → listTold (pushedAll (emptyList 0) jobs) ≡ listTold (formList jobs)
+    go : Dec (count_most < length jobs) → list_told (pushed_all (empty_list 0) jobs) ≡ list_told (form_list jobs)
     go (yes many) =
-        (row-two-exactly (pushedAll (emptyList 0) jobs)).1 (omega (arith, all-count (emptyList 0) jobs))
-        ∙ sym ((row-two-exactly (formList jobs)).1 many)
-    go (no few) = ap listTold (all-kept jobs (omega arith)) ∙ rest-told jobs (replicate (countMost - length jobs) noJob)
+        (row_two_exactly (pushed_all (empty_list 0) jobs)).1 (omega (arith, all_count (empty_list 0) jobs))
+        ∙ sym ((row_two_exactly (form_list jobs)).1 many)
+    go (no few) = ap list_told (all_kept jobs (omega arith)) ∙ rest_told jobs (replicate (count_most - length jobs) no_job)

@@ -4,26 +4,26 @@ use Rattle.job.specs.Told.{Told, row, passed}
 use Rattle.job.specs.Check.{otherwise}
 use Rattle.sheet.specs.declared.reading.Sheet.{Sheet}
 use Rattle.sheet.specs.declared.reader.Reader.{Reader}
-use Rattle.sheet.specs.Form.{bytesMost}
-use Rattle.sheet.specs.Sheet.{blankSheet, sheetTold}
-use Rattle.sheet.specs.Reader.{betweenLines, readerUpto, fitsUpto, placeUpto}
+use Rattle.sheet.specs.Form.{bytes_most}
+use Rattle.sheet.specs.Sheet.{blank_sheet, sheet_told}
+use Rattle.sheet.specs.Reader.{between_lines, reader_upto, fits_upto, place_upto}
 
 -- the reader at the end of the bytes
-abbrev pub lastReader : List ℕ → Reader
-lastReader bytes = readerUpto bytes (length bytes)
+abbrev pub last_reader : List ℕ → Reader
+last_reader bytes = reader_upto bytes (length bytes)
 
 -- '13: sheet not of the stated form', naming 'the first byte after which no sheet can continue; the length, if the sheet ends too soon'
-unfoldable pub formTold : List ℕ → Told
-formTold bytes =
-    cond (fitsUpto bytes (length bytes) && betweenLines (lastReader bytes)) passed
-    (row 13 (placeUpto bytes (length bytes) ∷ []))
+unfoldable pub form_told : List ℕ → Told
+form_told bytes =
+    cond (fits_upto bytes (length bytes) && between_lines (last_reader bytes)) passed
+    (row 13 (place_upto bytes (length bytes) ∷ []))
 
 -- '17: sheet over 4,096 bytes'
-unfoldable pub readTold : List ℕ → Told
-readTold bytes =
-    cond (ltb bytesMost (length bytes)) (row 17 [])
-    (otherwise (formTold bytes) (sheetTold (lastReader bytes).sheet))
+unfoldable pub read_told : List ℕ → Told
+read_told bytes =
+    cond (ltb bytes_most (length bytes)) (row 17 [])
+    (otherwise (form_told bytes) (sheet_told (last_reader bytes).sheet))
 
 -- the sheet of all zeros stands beside a refusal
-unfoldable pub readSheet : List ℕ → Sheet
-readSheet bytes = cond (eqb (readTold bytes).number 0) (lastReader bytes).sheet blankSheet
+unfoldable pub read_sheet : List ℕ → Sheet
+read_sheet bytes = cond (eqb (read_told bytes).number 0) (last_reader bytes).sheet blank_sheet

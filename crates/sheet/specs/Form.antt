@@ -3,67 +3,67 @@ use Rattle.std.specs.Prelude.{ℕ, ◌≤◌, ◌<◌, ◌≡◌, Bool, cond, Li
 use Rattle.job.specs.declared.record.Job.{Job}
 use Rattle.job.specs.declared.list.JobList.{JobList}
 use Rattle.job.specs.Limit.{relaxed, original}
-use Rattle.job.specs.Check.{jobAt}
+use Rattle.job.specs.Check.{job_at}
 use Rattle.text.specs.Ascii.{ascii}
-use Rattle.text.specs.Decimal.{decimalOf}
+use Rattle.text.specs.Decimal.{decimal_of}
 use Rattle.place.specs.declared.setting.Setting.{Setting}
-use Rattle.place.specs.Setting.{orderV, orderW}
+use Rattle.place.specs.Setting.{order_v, order_w}
 
 -- 'Numbers are 0 or up to 5 digits with no leading zero.'
-abbrev pub numberMost : ℕ
-numberMost = 99999
+abbrev pub number_most : ℕ
+number_most = 99999
 
 -- 'sheet over 4,096 bytes' and 'slot count 0 or above 4,096' are refused
-abbrev pub bytesMost : ℕ
-bytesMost = 4096
+abbrev pub bytes_most : ℕ
+bytes_most = 4096
 
-abbrev pub slotsMost : ℕ
-slotsMost = 4096
+abbrev pub slots_most : ℕ
+slots_most = 4096
 
 -- 'First line: V or W, R (relaxed) or O (original), slot count'
-abbrev pub orderLetter : ℕ → List ℕ
-orderLetter order = cond (eqb order orderV) (ascii "V") (ascii "W")
+abbrev pub order_letter : ℕ → List ℕ
+order_letter order = cond (eqb order order_v) (ascii "V") (ascii "W")
 
-abbrev pub modelLetter : ℕ → List ℕ
-modelLetter model = cond (eqb model relaxed) (ascii "R") (ascii "O")
+abbrev pub model_letter : ℕ → List ℕ
+model_letter model = cond (eqb model relaxed) (ascii "R") (ascii "O")
 
 -- 'Sheets gain an optional S after the slot count' (document 02, Item 1)
-abbrev pub spareEnd : Bool → List ℕ
-spareEnd spare = cond spare (ascii " S\n") (ascii "\n")
+abbrev pub spare_end : Bool → List ℕ
+spare_end spare = cond spare (ascii " S\n") (ascii "\n")
 
 -- 'Single spaces, each line ended by a line feed'
-unfoldable pub firstLine : Setting → ℕ → List ℕ
-firstLine s slots =
-    orderLetter s.order ++ (ascii " " ++ (modelLetter s.model ++ (ascii " " ++ (decimalOf slots ++ spareEnd s.spare))))
+unfoldable pub first_line : Setting → ℕ → List ℕ
+first_line s slots =
+    order_letter s.order ++ (ascii " " ++ (model_letter s.model ++ (ascii " " ++ (decimal_of slots ++ spare_end s.spare))))
 
 -- 'a line per job, C T m k'
-unfoldable pub jobLine : Job → List ℕ
-jobLine j =
-    decimalOf j.c
-    ++ (ascii " " ++ (decimalOf j.t ++ (ascii " " ++ (decimalOf j.m ++ (ascii " " ++ (decimalOf j.k ++ ascii "\n"))))))
+unfoldable pub job_line : Job → List ℕ
+job_line j =
+    decimal_of j.c
+    ++ (ascii " " ++ (decimal_of j.t ++ (ascii " " ++ (decimal_of j.m ++ (ascii " " ++ (decimal_of j.k ++ ascii "\n"))))))
 
 -- 'the form allows any number of job lines, none too'
-unfoldable pub jobLines : List Job → List ℕ
-jobLines [] = []
-jobLines (j ∷ jobs) = jobLine j ++ jobLines jobs
+unfoldable pub job_lines : List Job → List ℕ
+job_lines [] = []
+job_lines (j ∷ jobs) = job_line j ++ job_lines jobs
 
 -- the jobs of these lines, and how many they are
-abbrev pub formList : List Job → JobList
-formList jobs = record { jobs = jobs; count = length jobs }
+abbrev pub form_list : List Job → JobList
+form_list jobs = record { jobs = jobs; count = length jobs }
 
 pub record SmallJob (j : Job) : Type 0 where
-  pub c : j.c ≤ numberMost
-  pub t : j.t ≤ numberMost
-  pub m : j.m ≤ numberMost
-  pub k : j.k ≤ numberMost
+  pub c : j.c ≤ number_most
+  pub t : j.t ≤ number_most
+  pub m : j.m ≤ number_most
+  pub k : j.k ≤ number_most
 
 -- the bytes are the sheet of these values
 pub record SheetOf (bytes : List ℕ) (s : Setting) (slots : ℕ) (jobs : List Job) : Type 0 where
-  pub order : s.order ≤ orderW
+  pub order : s.order ≤ order_w
   pub model : s.model ≤ original
-  pub slots_small : slots ≤ numberMost
-  pub jobs-small : (i : ℕ) → i < length jobs → SmallJob (jobAt jobs i)
-  pub text : bytes ≡ firstLine s slots ++ jobLines jobs
+  pub slots_small : slots ≤ number_most
+  pub jobs_small : (i : ℕ) → i < length jobs → SmallJob (job_at jobs i)
+  pub text : bytes ≡ first_line s slots ++ job_lines jobs
 
 -- some sheet
 pub record IsSheet (bytes : List ℕ) : Type 0 where

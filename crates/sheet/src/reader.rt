@@ -1,7 +1,7 @@
 // Reading a sheet byte by byte: where the reader stands, which byte may come next, and what it makes
 // of it.
 ghost use Rattle.std.specs.Prelude.{◌≡◌, true, ◌<◌};
-ghost use Rattle.sheet.specs.Reader.{SoundReader, startReader, letterField, letterFits, digitFits, ownByte, endByte, spareNext, endsField, fits_of, valueAfter, pushedOf, withSheet, jobEndedOf, fieldAfter, storedOf, advancedOf, betweenLines};
+ghost use Rattle.sheet.specs.Reader.{SoundReader, start_reader, letter_field, letter_fits, digit_fits, own_byte, end_byte, spare_next, ends_field, fits_of, value_after, pushed_of, with_sheet, job_ended_of, field_after, stored_of, advanced_of, between_lines};
 
 use crate::reading::Sheet;
 use job::{Job, JobList};
@@ -20,14 +20,14 @@ pub struct Reader {
 
 // The fields of one letter.
 fn letter_field(field: u32) -> bool
-    ensures { result ≡ letterField field }
+    ensures { result ≡ letter_field field }
 {
     (field < 2) | (field == 7)
 }
 
 // 'V or W' in field 0, 'R (relaxed) or O (original)' in field 1, 'an optional S' in field 7.
 fn letter_fits(field: u32, byte: u8) -> bool
-    ensures { result ≡ letterFits field byte }
+    ensures { result ≡ letter_fits field byte }
 {
     if field == 0 {
         return (byte == b'V') | (byte == b'W');
@@ -40,14 +40,14 @@ fn letter_fits(field: u32, byte: u8) -> bool
 
 // 'Numbers are 0 or up to 5 digits with no leading zero': whether one more digit may come.
 fn digit_fits(digits: u32, value: u32, byte: u8) -> bool
-    ensures { result ≡ digitFits digits value byte }
+    ensures { result ≡ digit_fits digits value byte }
 {
     (b'0' <= byte) & (byte <= b'9') & ((digits == 0) | ((0 < value) & (digits < 5)))
 }
 
 // 'Single spaces, each line ended by a line feed': what ends a field.
 fn end_byte(field: u32) -> u8
-    ensures { result ≡ endByte field }
+    ensures { result ≡ end_byte field }
 {
     if (field == 2) | (5 < field) {
         b'\n'
@@ -58,13 +58,13 @@ fn end_byte(field: u32) -> u8
 
 // Whether the byte ends the slot count and 'an optional S' comes next.
 fn spare_next(field: u32, byte: u8) -> bool
-    ensures { result ≡ spareNext field byte }
+    ensures { result ≡ spare_next field byte }
 {
     (field == 2) & (byte == b' ')
 }
 
 fn ends_field(field: u32, byte: u8) -> bool
-    ensures { result ≡ endsField field byte }
+    ensures { result ≡ ends_field field byte }
 {
     spare_next(field, byte) | (byte == end_byte(field))
 }
@@ -72,7 +72,7 @@ fn ends_field(field: u32, byte: u8) -> bool
 // The list with one job more. Jobs past the sixteenth are counted and not kept.
 fn pushed(list: JobList, job: Job) -> JobList
     requires { list.count < 18446744073709551615 }
-    ensures { result ≡ pushedOf list job }
+    ensures { result ≡ pushed_of list job }
 {
     let at = list.count;
     let mut next = list;
@@ -85,7 +85,7 @@ fn pushed(list: JobList, job: Job) -> JobList
 
 // The same reader at a field of which nothing is read.
 fn opened(reader: Reader, field: u32) -> Reader
-    ensures { result ≡ withSheet field reader.job reader.sheet }
+    ensures { result ≡ with_sheet field reader.job reader.sheet }
 {
     let mut next = reader;
     next.field = field;
@@ -97,7 +97,7 @@ fn opened(reader: Reader, field: u32) -> Reader
 // What an ended k leaves: the job is whole, and the next may begin.
 fn job_ended(reader: Reader) -> Reader
     requires { reader.sheet.list.count < 18446744073709551615 }
-    ensures { result ≡ jobEndedOf reader }
+    ensures { result ≡ job_ended_of reader }
 {
     let mut next = opened(reader, 3);
     next.job.k = reader.value;
@@ -110,7 +110,7 @@ fn job_ended(reader: Reader) -> Reader
 
 // The field that comes after the byte which ends this one.
 fn field_after(field: u32, byte: u8) -> u32
-    ensures { result ≡ fieldAfter field byte }
+    ensures { result ≡ field_after field byte }
 {
     if spare_next(field, byte) {
         return 7;
@@ -124,7 +124,7 @@ fn field_after(field: u32, byte: u8) -> u32
 // What a field leaves that the byte ends: its value in its place, and the next field.
 fn stored(reader: Reader, byte: u8) -> Reader
     requires { reader.sheet.list.count < 18446744073709551615 }
-    ensures { result ≡ storedOf reader byte }
+    ensures { result ≡ stored_of reader byte }
 {
     let value = reader.value;
     let field = reader.field;
@@ -145,7 +145,7 @@ fn stored(reader: Reader, byte: u8) -> Reader
 impl Reader {
     // Before the first byte.
     pub fn start() -> Reader
-        ensures { result ≡ startReader }
+        ensures { result ≡ start_reader }
     {
         Reader {
             field: 0,
@@ -158,7 +158,7 @@ impl Reader {
 
     // Whether the byte is one more of the field itself.
     fn owns(self, byte: u8) -> bool
-        ensures { result ≡ ownByte self byte }
+        ensures { result ≡ own_byte self byte }
     {
         if letter_field(self.field) {
             return (self.digits == 0) & letter_fits(self.field, byte);
@@ -176,8 +176,8 @@ impl Reader {
     // The value of the field with one more byte of its own.
     fn value_after(self, byte: u8) -> u32
         requires sound_reader { SoundReader self }
-        requires byte_value { ownByte self byte ≡ true }
-        ensures { result ≡ valueAfter self byte }
+        requires byte_value { own_byte self byte ≡ true }
+        ensures { result ≡ value_after self byte }
     {
         if letter_field(self.field) {
             return if (byte == b'W') | (byte == b'O') {
@@ -192,7 +192,7 @@ impl Reader {
     pub(crate) fn advanced(self, byte: u8) -> Reader
         requires sound_reader { SoundReader self }
         requires count_bound { self.sheet.list.count < 18446744073709551615 }
-        ensures { result ≡ advancedOf self byte }
+        ensures { result ≡ advanced_of self byte }
     {
         if self.owns(byte) {
             let value = self.value_after(byte);
@@ -206,7 +206,7 @@ impl Reader {
 
     // Whether a sheet may end here.
     pub fn between_lines(self) -> bool
-        ensures { result ≡ betweenLines self }
+        ensures { result ≡ between_lines self }
     {
         (self.field == 3) & (self.digits == 0)
     }

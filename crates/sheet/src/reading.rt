@@ -1,7 +1,7 @@
 // A whole sheet. Tests 17, 13, 16, 1 to 6.
 ghost use Rattle.std.specs.Prelude.{◌≡◌};
-ghost use Rattle.job.specs.Told.{toldChecked};
-ghost use Rattle.sheet.specs.Sheet.{blankSheet, sheetTold};
+ghost use Rattle.job.specs.Told.{told_checked};
+ghost use Rattle.sheet.specs.Sheet.{blank_sheet, sheet_told};
 ghost use Rattle.sheet.specs.Promise.{BlankPromise, ReadPromise};
 
 use crate::reader::Reader;
@@ -40,7 +40,7 @@ impl Sheet {
 }
 
 fn refused(refusal: Refusal) -> ReadSheet
-    ensures { (result.answer ≡ Checked.Refused refusal) × (result.sheet ≡ blankSheet) }
+    ensures { (result.answer ≡ Checked.Refused refusal) × (result.sheet ≡ blank_sheet) }
 {
     ReadSheet {
         answer: Checked::Refused(refusal),
@@ -50,7 +50,7 @@ fn refused(refusal: Refusal) -> ReadSheet
 
 // What a sheet of the stated form holds: 16, then 1 to 6.
 fn check(sheet: Sheet) -> Checked
-    ensures { toldChecked result ≡ sheetTold sheet }
+    ensures { told_checked result ≡ sheet_told sheet }
 {
     if sheet.slots == 0 {
         return Checked::Refused(Refusal::SlotCount);

@@ -10,31 +10,31 @@ use lib.Dec.{eqb, ltb}
 use borrow.Author.Tests.{ltb-true, ltb-false}
 use Rattle.job.specs.declared.record.Job.{Job}
 use Rattle.job.specs.declared.list.JobList.{JobList}
-use Rattle.job.specs.Limit.{countMost, cycleMost}
+use Rattle.job.specs.Limit.{count_most, cycle_most}
 use Rattle.job.specs.Told.{Told, row, passed}
-use Rattle.job.specs.Check.{jobAt, otherwise}
-use Rattle.job.specs.Filled.{filledUpto}
-use Rattle.job.proofs.AlikeLaws.{Same, listed, filled-alike}
-use Rattle.job.proofs.Meaning.{row-two-exactly}
-use Rattle.admission.specs.Cycle.{cycleOf}
+use Rattle.job.specs.Check.{job_at, otherwise}
+use Rattle.job.specs.Filled.{filled_upto}
+use Rattle.job.proofs.AlikeLaws.{Same, listed, filled_alike}
+use Rattle.job.proofs.Meaning.{row_two_exactly}
+use Rattle.admission.specs.Cycle.{cycle_of}
 use Rattle.place.specs.declared.setting.Setting.{Setting}
 use Rattle.place.specs.declared.record.Place.{Place}
 use Rattle.place.specs.Opening.{blank, opened}
 use Rattle.run.specs.State.{zeros, fresh_of}
-use Rattle.run.specs.Step.{startTold}
-use Rattle.run.proofs.StartLaws.{start-checks, allowed-or, start-alike}
+use Rattle.run.specs.Step.{start_told}
+use Rattle.run.proofs.StartLaws.{start_checks, allowed_or, start_alike}
 use Rattle.shortfall.specs.declared.inner.Tally.{Tally}
-use Rattle.shortfall.specs.Tally.{tallyAt, talliesOf}
-use Rattle.admission.proofs.LentMeaning.{same-cycle as cycle-same}
-use Rattle.shortfall.specs.Shortfall.{belowOf, noneBelow, cycleJudged, shortfallTold, shortfallCount, shortfallJobs}
-use Rattle.shortfall.proofs.JudgeLaws.{start_first, refused-answer}
+use Rattle.shortfall.specs.Tally.{tally_at, tallies_of}
+use Rattle.admission.proofs.LentMeaning.{same_cycle as cycle-same}
+use Rattle.shortfall.specs.Shortfall.{below_of, none_below, cycle_judged, shortfall_told, shortfall_count, shortfall_jobs}
+use Rattle.shortfall.proofs.JudgeLaws.{start_first, refused_answer}
 
 -- of more than 16 jobs nothing is told but that
-many-refused : (l : JobList) (s : Setting) → countMost < l.count → eqb (startTold l s).number 0 ≡ false
-many-refused l s many =
-    ⊎_elim (λ a. ap (λ (t : Told). eqb t.number 0) (start-checks l s a ∙ (row-two-exactly l).1 many))
+many_refused : (l : JobList) (s : Setting) → count_most < l.count → eqb (start_told l s).number 0 ≡ false
+many_refused l s many =
+    ⊎_elim (λ a. ap (λ (t : Told). eqb t.number 0) (start_checks l s a ∙ (row_two_exactly l).1 many))
     (λ e. ap (λ (t : Told). eqb t.number 0) e)
-    (allowed-or l s)
+    (allowed_or l s)
 
 module _ (l : JobList) (jobs : List Job) (s : Setting) where
   abbrev other : JobList
@@ -42,62 +42,62 @@ module _ (l : JobList) (jobs : List Job) (s : Setting) where
 
   abbrev Answered : Type 0
   Answered =
-      (shortfallTold other s ≡ shortfallTold l s)
-      × (shortfallCount other s ≡ shortfallCount l s)
-      × (shortfallJobs other s ≡ shortfallJobs l s)
+      (shortfall_told other s ≡ shortfall_told l s)
+      × (shortfall_count other s ≡ shortfall_count l s)
+      × (shortfall_jobs other s ≡ shortfall_jobs l s)
 
-  many-alike : startTold other s ≡ startTold l s → countMost < l.count → Answered
-  many-alike starts many =
-      let here = many-refused l s many in
-      let there = many-refused other s many in
+  many_alike : start_told other s ≡ start_told l s → count_most < l.count → Answered
+  many_alike starts many =
+      let here = many_refused l s many in
+      let there = many_refused other s many in
       let told = start_first l s here in
       let told-other = start_first other s there in
-      let answer = refused-answer l s told here in
-      let answer-other = refused-answer other s told-other there in
+      let answer = refused_answer l s told here in
+      let answer-other = refused_answer other s told-other there in
       (told-other ∙ starts ∙ sym told, answer-other.0 ∙ sym answer.0, answer-other.1 ∙ sym answer.1)
 
-  module _ (starts : startTold other s ≡ startTold l s) (few : l.count ≤ countMost) (same : Same jobs l.jobs l.count) where
-    same-cycle : cycleOf other ≡ cycleOf l
-    same-cycle = cycle-same jobs l.jobs l.count same
+  module _ (starts : start_told other s ≡ start_told l s) (few : l.count ≤ count_most) (same : Same jobs l.jobs l.count) where
+    same_cycle : cycle_of other ≡ cycle_of l
+    same_cycle = cycle-same jobs l.jobs l.count same
 
-    same-fresh : fresh_of other s ≡ fresh_of l s
-    same-fresh =
+    same_fresh : fresh_of other s ≡ fresh_of l s
+    same_fresh =
         ap
         (λ (places : List Place).
         record { setting = s; clock = 0; count = l.count; places = places; totals = zeros.totals })
-        (filled-alike blank (λ i. opened (jobAt jobs i)) (λ i. opened (jobAt l.jobs i)) (min l.count countMost)
+        (filled_alike blank (λ i. opened (job_at jobs i)) (λ i. opened (job_at l.jobs i)) (min l.count count_most)
         (λ i h. ap opened (same i (omega arith))))
 
-    same-tallies : talliesOf (fresh_of other s) (cycleOf other) ≡ talliesOf (fresh_of l s) (cycleOf l)
-    same-tallies = ap₂ talliesOf same-fresh same-cycle
+    same_tallies : tallies_of (fresh_of other s) (cycle_of other) ≡ tallies_of (fresh_of l s) (cycle_of l)
+    same_tallies = ap₂ tallies_of same_fresh same_cycle
 
-    same-told : shortfallTold other s ≡ shortfallTold l s
-    unfolding shortfallTold
-    same-told =
-        ap₂ (λ (t : Told) (h : ℕ). otherwise t (cond (ltb cycleMost h) (row 8 []) passed)) starts same-cycle
+    same_told : shortfall_told other s ≡ shortfall_told l s
+    unfolding shortfall_told
+    same_told =
+        ap₂ (λ (t : Told) (h : ℕ). otherwise t (cond (ltb cycle_most h) (row 8 []) passed)) starts same_cycle
 
-    same-jobs : (cycleJudged other s).jobs ≡ (cycleJudged l s).jobs
-    same-jobs =
-        ap₂ (λ (h : ℕ) (t : List Tally). filledUpto noneBelow (λ i. belowOf (jobAt jobs i) h (tallyAt t i)) l.count) same-cycle same-tallies
-        ∙ filled-alike noneBelow _ _ l.count
-        (λ i h. ap (λ (j : Job). belowOf j (cycleOf l) (tallyAt (talliesOf (fresh_of l s) (cycleOf l)) i)) (same i h))
+    same_jobs : (cycle_judged other s).jobs ≡ (cycle_judged l s).jobs
+    same_jobs =
+        ap₂ (λ (h : ℕ) (t : List Tally). filled_upto none_below (λ i. below_of (job_at jobs i) h (tally_at t i)) l.count) same_cycle same_tallies
+        ∙ filled_alike none_below _ _ l.count
+        (λ i h. ap (λ (j : Job). below_of j (cycle_of l) (tally_at (tallies_of (fresh_of l s) (cycle_of l)) i)) (same i h))
 
-    few-alike : Answered
-    unfolding shortfallCount shortfallJobs
-    few-alike = (
-      same-told,
-      rw (same-told, same-tallies),
-      rw (same-told, same-jobs),
+    few_alike : Answered
+    unfolding shortfall_count shortfall_jobs
+    few_alike = (
+      same_told,
+      rw (same_told, same_tallies),
+      rw (same_told, same_jobs),
     )
 
-  pub shortfall-alike : Same jobs l.jobs (min l.count countMost) → Answered
-  shortfall-alike same = go (ltb countMost l.count) refl
+  pub shortfall_alike : Same jobs l.jobs (min l.count count_most) → Answered
+  shortfall_alike same = go (ltb count_most l.count) refl
     where
-      starts : startTold other s ≡ startTold l s
-      starts = start-alike l jobs s same
+      starts : start_told other s ≡ start_told l s
+      starts = start_alike l jobs s same
 
-      go : (many : Bool) → ltb countMost l.count ≡ many → Answered
-      go true e = many-alike starts (ltb-true countMost l.count e)
+      go : (many : Bool) → ltb count_most l.count ≡ many → Answered
+      go true e = many_alike starts (ltb-true count_most l.count e)
       go false e =
-          let few = ltb-false countMost l.count e in
-          few-alike starts few (subst (Same jobs l.jobs) (min-eq_left few) same)
+          let few = ltb-false count_most l.count e in
+          few_alike starts few (subst (Same jobs l.jobs) (min-eq_left few) same)

@@ -14,41 +14,41 @@ use Rattle.job.specs.declared.refusal.Refusal.{Refusal}
 use Rattle.job.specs.declared.refusal.Refusal.TheVariants.{Overload}
 use Rattle.job.specs.declared.refusal.Checked.{Checked}
 use Rattle.job.specs.declared.refusal.Checked.TheVariants.{Passed}
-use Rattle.job.specs.Limit.{countMost, relaxed, cycleMost}
-use Rattle.job.specs.Told.{Told, row, passed, told, toldChecked}
-use Rattle.job.specs.Check.{jobAt, otherwise, listTold}
+use Rattle.job.specs.Limit.{count_most, relaxed, cycle_most}
+use Rattle.job.specs.Told.{Told, row, passed, told, told_checked}
+use Rattle.job.specs.Check.{job_at, otherwise, list_told}
 use Rattle.job.specs.Sound.{SoundList}
-use Rattle.job.specs.Filled.{filledUpto}
+use Rattle.job.specs.Filled.{filled_upto}
 use Rattle.job.proofs.FilledLaws.{filled_more}
-use Rattle.job.proofs.CheckLaws.{otherwise-passed, otherwise-refused}
+use Rattle.job.proofs.CheckLaws.{otherwise_passed, otherwise_refused}
 use Rattle.job.proofs.TestLaws.{clash}
-use Rattle.job.proofs.ToldLaws.{told-refuses, refusal-one-to-one}
-use Rattle.job.proofs.Meaning.{passes-exactly, sound-or}
-use Rattle.admission.specs.Cycle.{cycleOf}
+use Rattle.job.proofs.ToldLaws.{told_refuses, refusal_one_to_one}
+use Rattle.job.proofs.Meaning.{passes_exactly, sound_or}
+use Rattle.admission.specs.Cycle.{cycle_of}
 use Rattle.admission.specs.Load.{load_of}
 use Rattle.admission.specs.Judged.{Judged}
-use Rattle.admission.specs.Verdict.{verdictTold}
-use Rattle.admission.proofs.CycleLaws.{cycle-is}
+use Rattle.admission.specs.Verdict.{verdict_told}
+use Rattle.admission.proofs.CycleLaws.{cycle_is}
 use Rattle.admission.proofs.LoadLaws.{load_is}
-use Rattle.admission.proofs.VerdictLaws.{judged-over, judged-admitted, verdict-refused, verdict-long, verdict-judged}
-use Rattle.admission.proofs.Meaning.{admitted-exactly, row-nine-exactly}
+use Rattle.admission.proofs.VerdictLaws.{judged_over, judged_admitted, verdict_refused, verdict_long, verdict_judged}
+use Rattle.admission.proofs.Meaning.{admitted_exactly, row_nine_exactly}
 use Rattle.place.specs.declared.setting.Setting.{Setting}
 use Rattle.place.specs.Sound.{Allowed}
-use Rattle.place.specs.Setting.{settingAllowed}
-use Rattle.place.proofs.Meaning.{allowed-exactly}
+use Rattle.place.specs.Setting.{setting_allowed}
+use Rattle.place.proofs.Meaning.{allowed_exactly}
 use Rattle.run.specs.State.{fresh_of}
-use Rattle.run.specs.Slot.{countUpto}
-use Rattle.run.specs.Step.{startTold}
-use Rattle.run.proofs.SlotLaws.{count-high, count-more}
-use Rattle.run.proofs.StartLaws.{not-started, start-checks}
+use Rattle.run.specs.Slot.{count_upto}
+use Rattle.run.specs.Step.{start_told}
+use Rattle.run.proofs.SlotLaws.{count_high, count_more}
+use Rattle.run.proofs.StartLaws.{not_started, start_checks}
 use Rattle.shortfall.specs.declared.inner.Tally.{Tally}
 use Rattle.shortfall.specs.declared.answer.First.{First}
 use Rattle.shortfall.specs.declared.answer.First.TheVariants.{Never, Slot}
 use Rattle.shortfall.specs.declared.answer.Below.{Below}
 use Rattle.shortfall.specs.declared.answer.Judgement.{Judgement}
-use Rattle.shortfall.specs.Tally.{tallyAt, talliesOf}
+use Rattle.shortfall.specs.Tally.{tally_at, tallies_of}
 use Rattle.shortfall.specs.Promise.{ShortfallPromise}
-use Rattle.shortfall.specs.Shortfall.{first_of, belowOf, noneBelow, nothingJudged, judgedUpto, judgedOf, shortfallTold, cycleJudged, shortfallCount, shortfallJobs}
+use Rattle.shortfall.specs.Shortfall.{first_of, below_of, none_below, nothing_judged, judged_upto, judged_of, shortfall_told, cycle_judged, shortfall_count, shortfall_jobs}
 
 -- the first slot told
 pub never_first : (t : Tally) → t.short ≡ 0 → Never ≡ first_of t
@@ -59,168 +59,168 @@ pub some_first : (t : Tally) → ¬ (t.short ≡ 0) → Slot t.first ≡ first_o
 unfolding first_of
 some_first t some = rw (ne_eqb t.short 0 some)
 
-pub below-is :
+pub below_is :
     (job : Job) (cycle : ℕ) (t : Tally) {first : First} → first ≡ first_of t
-    → ◌≡◌ {A = Below} (record { windows = (belowOf job cycle t).windows; short = t.short; first = first }) (belowOf job cycle t)
-below-is job cycle t e = ap (λ (x : First). record { windows = (belowOf job cycle t).windows; short = t.short; first = x }) e
+    → ◌≡◌ {A = Below} (record { windows = (below_of job cycle t).windows; short = t.short; first = first }) (below_of job cycle t)
+below_is job cycle t e = ap (λ (x : First). record { windows = (below_of job cycle t).windows; short = t.short; first = x }) e
 
 -- the rows, in their order
-told-by : (l : JobList) (setting : Setting) (long : Bool) → ltb cycleMost (cycleOf l) ≡ long → shortfallTold l setting ≡ otherwise (startTold l setting) (cond long (row 8 []) passed)
-unfolding shortfallTold
-told-by l setting long e = rw e
+told_by : (l : JobList) (setting : Setting) (long : Bool) → ltb cycle_most (cycle_of l) ≡ long → shortfall_told l setting ≡ otherwise (start_told l setting) (cond long (row 8 []) passed)
+unfolding shortfall_told
+told_by l setting long e = rw e
 
 -- what a start refuses is refused as there
-pub start_first : (l : JobList) (setting : Setting) → eqb (startTold l setting).number 0 ≡ false → shortfallTold l setting ≡ startTold l setting
-start_first l setting refuses = told-by l setting _ refl ∙ otherwise-refused (startTold l setting) _ refuses
+pub start_first : (l : JobList) (setting : Setting) → eqb (start_told l setting).number 0 ≡ false → shortfall_told l setting ≡ start_told l setting
+start_first l setting refuses = told_by l setting _ refl ∙ otherwise_refused (start_told l setting) _ refuses
 
-pub strange-told : (l : JobList) (setting : Setting) → settingAllowed setting ≡ false → shortfallTold l setting ≡ row 15 []
-strange-told l setting e =
-    start_first l setting (ap (λ (t : Told). eqb t.number 0) (not-started l setting e)) ∙ not-started l setting e
+pub strange_told : (l : JobList) (setting : Setting) → setting_allowed setting ≡ false → shortfall_told l setting ≡ row 15 []
+strange_told l setting e =
+    start_first l setting (ap (λ (t : Told). eqb t.number 0) (not_started l setting e)) ∙ not_started l setting e
 
 module _ (l : JobList) (setting : Setting) (allowed : Allowed setting) where
-  refused-told : {t : Told} → listTold l ≡ t → eqb t.number 0 ≡ false → shortfallTold l setting ≡ t
-  refused-told {t} e refuses =
-      let start : startTold l setting ≡ t = start-checks l setting allowed ∙ e in
+  refused_told : {t : Told} → list_told l ≡ t → eqb t.number 0 ≡ false → shortfall_told l setting ≡ t
+  refused_told {t} e refuses =
+      let start : start_told l setting ≡ t = start_checks l setting allowed ∙ e in
       start_first l setting (ap (λ (x : Told). eqb x.number 0) start ∙ refuses) ∙ start
 
   module _ (sound : SoundList l) where
-    starts : startTold l setting ≡ passed
-    starts = start-checks l setting allowed ∙ (passes-exactly l).1 sound
+    starts : start_told l setting ≡ passed
+    starts = start_checks l setting allowed ∙ (passes_exactly l).1 sound
 
-    pub long-told : cycleMost < cycleOf l → shortfallTold l setting ≡ row 8 []
-    long-told long = told-by l setting true (lt-ltb cycleMost (cycleOf l) long) ∙ otherwise-passed _ starts
+    pub long_told : cycle_most < cycle_of l → shortfall_told l setting ≡ row 8 []
+    long_told long = told_by l setting true (lt-ltb cycle_most (cycle_of l) long) ∙ otherwise_passed _ starts
 
-    pub short-told : cycleOf l ≤ cycleMost → shortfallTold l setting ≡ passed
-    short-told short = told-by l setting false (le-ltb cycleMost (cycleOf l) short) ∙ otherwise-passed _ starts
+    pub short_told : cycle_of l ≤ cycle_most → shortfall_told l setting ≡ passed
+    short_told short = told_by l setting false (le-ltb cycle_most (cycle_of l) short) ∙ otherwise_passed _ starts
 
 -- a list that is refused, and why; or its cycle
 pub data RowView (l : JobList) (setting : Setting) : Type 0 where
-  strange : ¬ Allowed setting → shortfallTold l setting ≡ row 15 [] → RowView l setting
-  faulty : Allowed setting → ¬ SoundList l → shortfallTold l setting ≡ listTold l → eqb (listTold l).number 0 ≡ false → RowView l setting
-  too_long : Allowed setting → SoundList l → cycleMost < cycleOf l → shortfallTold l setting ≡ row 8 [] → RowView l setting
-  judgeable : Allowed setting → SoundList l → cycleOf l ≤ cycleMost → shortfallTold l setting ≡ passed → RowView l setting
+  strange : ¬ Allowed setting → shortfall_told l setting ≡ row 15 [] → RowView l setting
+  faulty : Allowed setting → ¬ SoundList l → shortfall_told l setting ≡ list_told l → eqb (list_told l).number 0 ≡ false → RowView l setting
+  too_long : Allowed setting → SoundList l → cycle_most < cycle_of l → shortfall_told l setting ≡ row 8 [] → RowView l setting
+  judgeable : Allowed setting → SoundList l → cycle_of l ≤ cycle_most → shortfall_told l setting ≡ passed → RowView l setting
 
-pub row-view : (l : JobList) (setting : Setting) → RowView l setting
-row-view l setting = go (settingAllowed setting) refl
+pub row_view : (l : JobList) (setting : Setting) → RowView l setting
+row_view l setting = go (setting_allowed setting) refl
   where
-    cycles : Allowed setting → SoundList l → (long : Bool) → ltb cycleMost (cycleOf l) ≡ long → RowView l setting
-    cycles a s true e = let h = ltb-true cycleMost (cycleOf l) e in too_long a s h (long-told l setting a s h)
-    cycles a s false e = let h = ltb-false cycleMost (cycleOf l) e in judgeable a s h (short-told l setting a s h)
+    cycles : Allowed setting → SoundList l → (long : Bool) → ltb cycle_most (cycle_of l) ≡ long → RowView l setting
+    cycles a s true e = let h = ltb-true cycle_most (cycle_of l) e in too_long a s h (long_told l setting a s h)
+    cycles a s false e = let h = ltb-false cycle_most (cycle_of l) e in judgeable a s h (short_told l setting a s h)
 
-    unsound : eqb (listTold l).number 0 ≡ false → ¬ SoundList l
-    unsound refuses s = clash refuses (ap (λ (t : Told). eqb t.number 0) ((passes-exactly l).1 s))
+    unsound : eqb (list_told l).number 0 ≡ false → ¬ SoundList l
+    unsound refuses s = clash refuses (ap (λ (t : Told). eqb t.number 0) ((passes_exactly l).1 s))
 
-    go : (b : Bool) → settingAllowed setting ≡ b → RowView l setting
-    go false e = strange (λ a. clash e ((allowed-exactly setting).1 a)) (strange-told l setting e)
+    go : (b : Bool) → setting_allowed setting ≡ b → RowView l setting
+    go false e = strange (λ a. clash e ((allowed_exactly setting).1 a)) (strange_told l setting e)
     go true e =
-        let a = (allowed-exactly setting).0 e in
-        ⊎_elim (λ s. cycles a s (ltb cycleMost (cycleOf l)) refl)
-        (λ refuses. faulty a (unsound refuses) (refused-told l setting a refl refuses) refuses) (sound-or l)
+        let a = (allowed_exactly setting).0 e in
+        ⊎_elim (λ s. cycles a s (ltb cycle_most (cycle_of l)) refl)
+        (λ refuses. faulty a (unsound refuses) (refused_told l setting a refl refuses) refuses) (sound_or l)
 
 -- what is answered of a list that is refused, and of one that is not
 module _ (l : JobList) (setting : Setting) where
-  count_by : (t : Told) → shortfallTold l setting ≡ t → shortfallCount l setting ≡ cond (eqb t.number 0) (cycleJudged l setting).fallen 0
-  unfolding shortfallCount
-  count_by t e = ap (λ (x : Told). cond (eqb x.number 0) (cycleJudged l setting).fallen 0) e
+  count_by : (t : Told) → shortfall_told l setting ≡ t → shortfall_count l setting ≡ cond (eqb t.number 0) (cycle_judged l setting).fallen 0
+  unfolding shortfall_count
+  count_by t e = ap (λ (x : Told). cond (eqb x.number 0) (cycle_judged l setting).fallen 0) e
 
-  jobs-by :
-      (t : Told) → shortfallTold l setting ≡ t
-      → shortfallJobs l setting ≡ cond (eqb t.number 0) (cycleJudged l setting).jobs (replicate countMost noneBelow)
-  unfolding shortfallJobs
-  jobs-by t e = ap (λ (x : Told). cond (eqb x.number 0) (cycleJudged l setting).jobs (replicate countMost noneBelow)) e
+  jobs_by :
+      (t : Told) → shortfall_told l setting ≡ t
+      → shortfall_jobs l setting ≡ cond (eqb t.number 0) (cycle_judged l setting).jobs (replicate count_most none_below)
+  unfolding shortfall_jobs
+  jobs_by t e = ap (λ (x : Told). cond (eqb x.number 0) (cycle_judged l setting).jobs (replicate count_most none_below)) e
 
-  pub refused-answer :
-      {t : Told} → shortfallTold l setting ≡ t → eqb t.number 0 ≡ false
-      → (shortfallCount l setting ≡ 0) × (shortfallJobs l setting ≡ replicate countMost noneBelow)
-  refused-answer {t} e refuses = (
-    count_by t e ∙ ap (λ (b : Bool). cond b (cycleJudged l setting).fallen 0) refuses,
-    jobs-by t e ∙ ap (λ (b : Bool). cond b (cycleJudged l setting).jobs (replicate countMost noneBelow)) refuses,
+  pub refused_answer :
+      {t : Told} → shortfall_told l setting ≡ t → eqb t.number 0 ≡ false
+      → (shortfall_count l setting ≡ 0) × (shortfall_jobs l setting ≡ replicate count_most none_below)
+  refused_answer {t} e refuses = (
+    count_by t e ∙ ap (λ (b : Bool). cond b (cycle_judged l setting).fallen 0) refuses,
+    jobs_by t e ∙ ap (λ (b : Bool). cond b (cycle_judged l setting).jobs (replicate count_most none_below)) refuses,
   )
 
-  pub judged-answer :
-      shortfallTold l setting ≡ passed
-      → (shortfallCount l setting ≡ (cycleJudged l setting).fallen) × (shortfallJobs l setting ≡ (cycleJudged l setting).jobs)
-  judged-answer e = (count_by passed e, jobs-by passed e)
+  pub judged_answer :
+      shortfall_told l setting ≡ passed
+      → (shortfall_count l setting ≡ (cycle_judged l setting).fallen) × (shortfall_jobs l setting ≡ (cycle_judged l setting).jobs)
+  judged_answer e = (count_by passed e, jobs_by passed e)
 
 -- what the verdict in the relaxed model says, where it has a cycle
 pub record Cycled (l : JobList) (h : ℕ) : Type 0 where
   pub sound : SoundList l
-  pub is : h ≡ cycleOf l
-  pub short : h ≤ cycleMost
+  pub is : h ≡ cycle_of l
+  pub short : h ≤ cycle_most
 
 -- the promise, of a result that was made for a refusal, and for a cycle
-pub refused-promise :
-    (l : JobList) (setting : Setting) (c : Checked) {r : Judgement} → r ≡ nothingJudged c → toldChecked c ≡ shortfallTold l setting
-    → eqb (toldChecked c).number 0 ≡ false → ShortfallPromise l setting r
-refused-promise l setting c e told_is refuses =
-    let answer = refused-answer l setting (sym told_is) refuses in (
-      ap (λ (x : Judgement). toldChecked x.answer) e ∙ told_is,
+pub refused_promise :
+    (l : JobList) (setting : Setting) (c : Checked) {r : Judgement} → r ≡ nothing_judged c → told_checked c ≡ shortfall_told l setting
+    → eqb (told_checked c).number 0 ≡ false → ShortfallPromise l setting r
+refused_promise l setting c e told_is refuses =
+    let answer = refused_answer l setting (sym told_is) refuses in (
+      ap (λ (x : Judgement). told_checked x.answer) e ∙ told_is,
       ap (λ (x : Judgement). x.fallen) e ∙ sym answer.0,
       ap (λ (x : Judgement). x.jobs) e ∙ sym answer.1,
     )
 
-pub judged-promise :
+pub judged_promise :
     (l : JobList) (setting : Setting) (h : ℕ) {r : Judgement} → Allowed setting → Cycled l h
-    → r ≡ judgedOf l h (talliesOf (fresh_of l setting) h) → ShortfallPromise l setting r
-judged-promise l setting h {r} allowed cycle e =
-    let told_is = short-told l setting allowed cycle.sound (let is = cycle.is in let short = cycle.short in omega arith) in
-    let answer = judged-answer l setting told_is in
-    let same : r ≡ cycleJudged l setting = e ∙ ap (λ (x : ℕ). judgedOf l x (talliesOf (fresh_of l setting) x)) cycle.is in (
-      ap (λ (x : Judgement). toldChecked x.answer) same ∙ sym told_is,
+    → r ≡ judged_of l h (tallies_of (fresh_of l setting) h) → ShortfallPromise l setting r
+judged_promise l setting h {r} allowed cycle e =
+    let told_is = short_told l setting allowed cycle.sound (let is = cycle.is in let short = cycle.short in omega arith) in
+    let answer = judged_answer l setting told_is in
+    let same : r ≡ cycle_judged l setting = e ∙ ap (λ (x : ℕ). judged_of l x (tallies_of (fresh_of l setting) x)) cycle.is in (
+      ap (λ (x : Judgement). told_checked x.answer) same ∙ sym told_is,
       ap (λ (x : Judgement). x.fallen) same ∙ sym answer.0,
       ap (λ (x : Judgement). x.jobs) same ∙ sym answer.1,
     )
 
 cycled : {l : JobList} {h d : ℕ} → Judged l relaxed h d → Cycled l h
-cycled {l} j = record { sound = j.sound; is = cycle-is l j.sound j.cycle; short = j.cycle-short }
+cycled {l} j = record { sound = j.sound; is = cycle_is l j.sound j.cycle; short = j.cycle_short }
 
-pub admitted-cycled : {l : JobList} {h d : ℕ} → row 0 (h ∷ d ∷ []) ≡ verdictTold l relaxed → Cycled l h × (load_of l h ≤ h)
-admitted-cycled {l} {h} {d} e =
-    let facts = (admitted-exactly l relaxed h d).0 (sym e) in
+pub admitted_cycled : {l : JobList} {h d : ℕ} → row 0 (h ∷ d ∷ []) ≡ verdict_told l relaxed → Cycled l h × (load_of l h ≤ h)
+admitted_cycled {l} {h} {d} e =
+    let facts = (admitted_exactly l relaxed h d).0 (sym e) in
     (cycled facts.0, omega (arith, load_is facts.0.load, facts.1))
 
-pub over-cycled : {l : JobList} {h d : ℕ} → row 9 (h ∷ d ∷ []) ≡ verdictTold l relaxed → Cycled l h
-over-cycled {l} {h} {d} e = cycled ((row-nine-exactly l relaxed h d).0 (sym e)).0
+pub over_cycled : {l : JobList} {h d : ℕ} → row 9 (h ∷ d ∷ []) ≡ verdict_told l relaxed → Cycled l h
+over_cycled {l} {h} {d} e = cycled ((row_nine_exactly l relaxed h d).0 (sym e)).0
 
 -- and where it has none, it is refused as here
-pub verdict-told :
-    (l : JobList) (setting : Setting) → Allowed setting → (r : Refusal) → told r ≡ verdictTold l relaxed
-    → ((h d : ℕ) → r ≡ Overload h d → ⊥) → shortfallTold l setting ≡ told r
-verdict-told l setting allowed r e none = go (row-view l setting)
+pub verdict_told_lem :
+    (l : JobList) (setting : Setting) → Allowed setting → (r : Refusal) → told r ≡ verdict_told l relaxed
+    → ((h d : ℕ) → r ≡ Overload h d → ⊥) → shortfall_told l setting ≡ told r
+verdict_told_lem l setting allowed r e none = go (row_view l setting)
   where
-    judged : SoundList l → cycleOf l ≤ cycleMost → (over : Bool) → ltb (cycleOf l) (load_of l (cycleOf l)) ≡ over → ⊥
+    judged : SoundList l → cycle_of l ≤ cycle_most → (over : Bool) → ltb (cycle_of l) (load_of l (cycle_of l)) ≡ over → ⊥
     judged s short true f =
-        none (cycleOf l) (load_of l (cycleOf l))
-        (refusal-one-to-one r (Overload (cycleOf l) (load_of l (cycleOf l)))
-        (e ∙ verdict-judged l relaxed ((passes-exactly l).1 s) refl short ∙ judged-over (ltb-true (cycleOf l) (load_of l (cycleOf l)) f)))
+        none (cycle_of l) (load_of l (cycle_of l))
+        (refusal_one_to_one r (Overload (cycle_of l) (load_of l (cycle_of l)))
+        (e ∙ verdict_judged l relaxed ((passes_exactly l).1 s) refl short ∙ judged_over (ltb-true (cycle_of l) (load_of l (cycle_of l)) f)))
     judged s short false f =
-        clash (told-refuses r)
+        clash (told_refuses r)
         (ap (λ (t : Told). eqb t.number 0)
-        (e ∙ verdict-judged l relaxed ((passes-exactly l).1 s) refl short ∙ judged-admitted (ltb-false (cycleOf l) (load_of l (cycleOf l)) f)))
+        (e ∙ verdict_judged l relaxed ((passes_exactly l).1 s) refl short ∙ judged_admitted (ltb-false (cycle_of l) (load_of l (cycle_of l)) f)))
 
-    go : RowView l setting → shortfallTold l setting ≡ told r
+    go : RowView l setting → shortfall_told l setting ≡ told r
     go (strange none-such x) = absurd (none-such allowed)
-    go (faulty a broken x refuses) = x ∙ sym (e ∙ verdict-refused l relaxed (omega arith) refl refuses)
-    go (too_long a s long x) = x ∙ sym (e ∙ verdict-long l relaxed ((passes-exactly l).1 s) refl long)
-    go (judgeable a s short x) = absurd (judged s short (ltb (cycleOf l) (load_of l (cycleOf l))) refl)
+    go (faulty a broken x refuses) = x ∙ sym (e ∙ verdict_refused l relaxed (omega arith) refl refuses)
+    go (too_long a s long x) = x ∙ sym (e ∙ verdict_long l relaxed ((passes_exactly l).1 s) refl long)
+    go (judgeable a s short x) = absurd (judged s short (ltb (cycle_of l) (load_of l (cycle_of l))) refl)
 
 -- the jobs, one after another
 module _ (l : JobList) (cycle : ℕ) (tallies : List Tally) where
-  pub none-judged : {r : Judgement} → r ≡ nothingJudged Passed → r ≡ judgedUpto l cycle tallies 0
-  unfolding filledUpto countUpto
-  none-judged e = e
+  pub none_judged : {r : Judgement} → r ≡ nothing_judged Passed → r ≡ judged_upto l cycle tallies 0
+  unfolding filled_upto count_upto
+  none_judged e = e
 
-  pub one-more-judged :
-      (i : ℕ) {r : Judgement} {one : Below} {fallen : ℕ} → r ≡ judgedUpto l cycle tallies i
-      → one ≡ belowOf (jobAt l.jobs i) cycle (tallyAt tallies i)
+  pub one_more_judged :
+      (i : ℕ) {r : Judgement} {one : Below} {fallen : ℕ} → r ≡ judged_upto l cycle tallies i
+      → one ≡ below_of (job_at l.jobs i) cycle (tally_at tallies i)
       → fallen ≡ cond (ltb 0 one.short) (r.fallen + 1) r.fallen
-      → record { answer = r.answer; fallen = fallen; jobs = set r.jobs i one } ≡ judgedUpto l cycle tallies (i + 1)
-  one-more-judged i {r} {one} {fallen} e f g =
+      → record { answer = r.answer; fallen = fallen; jobs = set r.jobs i one } ≡ judged_upto l cycle tallies (i + 1)
+  one_more_judged i {r} {one} {fallen} e f g =
       λ dim. record {
         answer = (ap (λ (x : Judgement). x.answer) e) dim;
-        fallen = count-more (λ i. ltb 0 (tallyAt tallies i).short) i (ap (λ (x : Below). ltb 0 x.short) f) (ap (λ (x : Judgement). x.fallen) e) g dim;
-        jobs = filled_more noneBelow _ i (ap (λ (x : Judgement). x.jobs) e) f dim;
+        fallen = count_more (λ i. ltb 0 (tally_at tallies i).short) i (ap (λ (x : Below). ltb 0 x.short) f) (ap (λ (x : Judgement). x.fallen) e) g dim;
+        jobs = filled_more none_below _ i (ap (λ (x : Judgement). x.jobs) e) f dim;
       }
 
-  pub fallen-high : (i : ℕ) {r : Judgement} → r ≡ judgedUpto l cycle tallies i → r.fallen ≤ i
-  fallen-high i e = omega (arith, ap (λ (x : Judgement). x.fallen) e, count-high (λ j. ltb 0 (tallyAt tallies j).short) i)
+  pub fallen_high : (i : ℕ) {r : Judgement} → r ≡ judged_upto l cycle tallies i → r.fallen ≤ i
+  fallen_high i e = omega (arith, ap (λ (x : Judgement). x.fallen) e, count_high (λ j. ltb 0 (tally_at tallies j).short) i)

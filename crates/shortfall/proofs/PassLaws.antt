@@ -12,173 +12,173 @@ use lib.ListN.{length, set, length-set}
 use lib.Seq.{get_or-set_same, get_or-set_other}
 use borrow.Author.Tests.{eqb-true}
 use Rattle.job.specs.declared.list.JobList.{JobList}
-use Rattle.job.specs.Limit.{countMost}
+use Rattle.job.specs.Limit.{count_most}
 use Rattle.place.specs.declared.setting.Setting.{Setting}
 use Rattle.place.specs.declared.record.Place.{Place}
 use Rattle.place.specs.declared.inner.service.Passage.{Passage}
 use Rattle.place.specs.declared.inner.choice.Held.{Held}
 use Rattle.place.specs.Opening.{blank}
-use Rattle.place.specs.Place.{movedOf, passedOf}
-use Rattle.place.specs.Choice.{SmallHeld, candidateOf, nobody, betterOf}
+use Rattle.place.specs.Place.{moved_of, passed_of}
+use Rattle.place.specs.Choice.{SmallHeld, candidate_of, nobody, better_of}
 use Rattle.place.specs.Sound.{SoundPlace}
-use Rattle.place.proofs.BoundLaws.{better-small, nobody-small}
-use Rattle.place.proofs.BareLaws.{bare, bare-candidate, bare-better, bare-sound, passed-place, passed-short, passed-sound}
+use Rattle.place.proofs.BoundLaws.{better_small, nobody_small}
+use Rattle.place.proofs.BareLaws.{bare, bare_candidate, bare_better, bare_sound, passed_place, passed_short, passed_sound}
 use Rattle.run.specs.declared.state.State.{State}
-use Rattle.run.specs.State.{clockMost, placeAt, fresh_of}
-use Rattle.run.specs.Choice.{heldUpto, chosen_of}
+use Rattle.run.specs.State.{clock_most, place_at, fresh_of}
+use Rattle.run.specs.Choice.{held_upto, chosen_of}
 use Rattle.run.specs.Sound.{SoundState}
-use Rattle.run.specs.Run.{afterSlots}
-use Rattle.run.proofs.FreshLaws.{fresh-listed, fresh-blank}
-use Rattle.run.proofs.HereLaws.{at, job-sound}
-use Rattle.run.proofs.KeepLaws.{turn-place}
-use Rattle.run.proofs.ChoiceLaws.{chosen-candidate}
-use Rattle.run.proofs.RunLaws.{after_more, after-setting, after-count, after-sound}
-use Rattle.shortfall.specs.Tally.{endsShortIn, NoTags}
+use Rattle.run.specs.Run.{after_slots}
+use Rattle.run.proofs.FreshLaws.{fresh_listed, fresh_blank}
+use Rattle.run.proofs.HereLaws.{at, job_sound}
+use Rattle.run.proofs.KeepLaws.{turn_place}
+use Rattle.run.proofs.ChoiceLaws.{chosen_candidate}
+use Rattle.run.proofs.RunLaws.{after_more, after_setting, after_count, after_sound}
+use Rattle.shortfall.specs.Tally.{ends_short_in, NoTags}
 
 -- after n slots of a state: the places, and who is chosen for the next
 pub record Standing (s : State) (places : List Place) (chosen n : ℕ) : Type 0 where
-  pub long : length places ≡ countMost
-  pub places-are : (j : ℕ) → j < s.count → placeAt places j ≡ bare (at (afterSlots s n) j)
-  pub chosen_is : chosen ≡ chosen_of (afterSlots s n)
+  pub long : length places ≡ count_most
+  pub places_are : (j : ℕ) → j < s.count → place_at places j ≡ bare (at (after_slots s n) j)
+  pub chosen_is : chosen ≡ chosen_of (after_slots s n)
 
 -- in slot n the first i places are moved on, and `best` is the one of them to choose for the next slot
 pub record Passing (s : State) (n : ℕ) (places : List Place) (best : Held) (i : ℕ) : Type 0 where
   pub within : i ≤ s.count
-  pub long : length places ≡ countMost
-  pub moved : (j : ℕ) → j < i → placeAt places j ≡ bare (at (afterSlots s (n + 1)) j)
-  pub still : (j : ℕ) → i ≤ j → j < s.count → placeAt places j ≡ bare (at (afterSlots s n) j)
-  pub best-is : best ≡ heldUpto s.setting (afterSlots s (n + 1)).places i
-  pub best-small : SmallHeld best
+  pub long : length places ≡ count_most
+  pub moved : (j : ℕ) → j < i → place_at places j ≡ bare (at (after_slots s (n + 1)) j)
+  pub still : (j : ℕ) → i ≤ j → j < s.count → place_at places j ≡ bare (at (after_slots s n) j)
+  pub best_is : best ≡ held_upto s.setting (after_slots s (n + 1)).places i
+  pub best_small : SmallHeld best
 
-chosen_by : (g : State) → chosen_of g ≡ (heldUpto g.setting g.places g.count).at
+chosen_by : (g : State) → chosen_of g ≡ (held_upto g.setting g.places g.count).at
 unfolding chosen_of
 chosen_by g = refl
 
-held-step : (setting : Setting) (places : List Place) (i : ℕ) → betterOf setting (heldUpto setting places i) i (placeAt places i) ≡ heldUpto setting places (i + 1)
-unfolding heldUpto
-held-step setting places i = sym (ap (heldUpto setting places) (add-one i))
+held_step : (setting : Setting) (places : List Place) (i : ℕ) → better_of setting (held_upto setting places i) i (place_at places i) ≡ held_upto setting places (i + 1)
+unfolding held_upto
+held_step setting places i = sym (ap (held_upto setting places) (add-one i))
 
 -- the fresh state of a list has no tag
-pub fresh-untagged : (l : JobList) (setting : Setting) → l.count ≤ countMost → NoTags (fresh_of l setting)
-fresh-untagged l setting few j = go (dec_lt j l.count)
+pub fresh_untagged : (l : JobList) (setting : Setting) → l.count ≤ count_most → NoTags (fresh_of l setting)
+fresh_untagged l setting few j = go (dec_lt j l.count)
   where
-    go : Dec (j < l.count) → (placeAt (fresh_of l setting).places j).at.tag ≡ false
-    go (yes listed) = ap (λ (q : Place). q.at.tag) (fresh-listed l setting few j listed)
-    go (no past) = ap (λ (q : Place). q.at.tag) (fresh-blank l setting few j (omega arith))
+    go : Dec (j < l.count) → (place_at (fresh_of l setting).places j).at.tag ≡ false
+    go (yes listed) = ap (λ (q : Place). q.at.tag) (fresh_listed l setting few j listed)
+    go (no past) = ap (λ (q : Place). q.at.tag) (fresh_blank l setting few j (omega arith))
 
 -- a place that has no tag
-bare-same : (q : Place) → q.at.tag ≡ false → q ≡ bare q
-bare-same q none dim =
+bare_same : (q : Place) → q.at.tag ≡ false → q ≡ bare q
+bare_same q none dim =
     record {
       job = q.job;
       at = record { e = q.at.e; p = q.at.p; u = q.at.u; s = q.at.s; v = q.at.v; tag = none dim };
     }
 
 module _ (s : State) where
-  pub stand-starts : SoundState s → NoTags s → {chosen : ℕ} → chosen ≡ chosen_of s → Standing s s.places chosen 0
-  unfolding afterSlots
-  stand-starts sound none e =
-      record { long = sound.long; places-are = λ j listed. bare-same (placeAt s.places j) (none j); chosen_is = e }
+  pub stand_starts : SoundState s → NoTags s → {chosen : ℕ} → chosen ≡ chosen_of s → Standing s s.places chosen 0
+  unfolding after_slots
+  stand_starts sound none e =
+      record { long = sound.long; places_are = λ j listed. bare_same (place_at s.places j) (none j); chosen_is = e }
 
-  pub pass-starts : {places : List Place} {chosen n : ℕ} {best : Held} → Standing s places chosen n → best ≡ nobody → Passing s n places best 0
-  unfolding heldUpto
-  pass-starts here e =
+  pub pass_starts : {places : List Place} {chosen n : ℕ} {best : Held} → Standing s places chosen n → best ≡ nobody → Passing s n places best 0
+  unfolding held_upto
+  pass_starts here e =
       record {
         within = omega arith;
         long = here.long;
         moved = λ j h. absurd (omega arith);
-        still = λ j h listed. here.places-are j listed;
-        best-is = e;
-        best-small = rw e nobody-small;
+        still = λ j h listed. here.places_are j listed;
+        best_is = e;
+        best_small = rw e nobody_small;
       }
 
   -- a whole pass is a slot
-  pub stand-next : {places : List Place} {n i : ℕ} {best : Held} → Passing s n places best i → i ≡ s.count → Standing s places best.at (n + 1)
-  stand-next {places} {n} {i} {best} p all =
+  pub stand_next : {places : List Place} {n i : ℕ} {best : Held} → Passing s n places best i → i ≡ s.count → Standing s places best.at (n + 1)
+  stand_next {places} {n} {i} {best} p all =
       record {
         long = p.long;
-        places-are = λ j listed. p.moved j (omega arith);
+        places_are = λ j listed. p.moved j (omega arith);
         chosen_is =
-            let g = afterSlots s (n + 1) in
-            ap (λ (x : Held). x.at) p.best-is
-            ∙ cc (all, after-setting s (n + 1), after-count s (n + 1), chosen_by g);
+            let g = after_slots s (n + 1) in
+            ap (λ (x : Held). x.at) p.best_is
+            ∙ cc (all, after_setting s (n + 1), after_count s (n + 1), chosen_by g);
       }
 
-module _ (s : State) (sound : SoundState s) (n : ℕ) (room : s.clock + n ≤ clockMost) where
+module _ (s : State) (sound : SoundState s) (n : ℕ) (room : s.clock + n ≤ clock_most) where
   abbrev now : State
-  now = afterSlots s n
+  now = after_slots s n
 
-  now-sound : SoundState now
-  now-sound = after-sound s sound n room
+  now_sound : SoundState now
+  now_sound = after_sound s sound n room
 
   module _
       {places : List Place} {best : Held} {i : ℕ} (p : Passing s n places best i) (listed : i < s.count) {before : List Place}
       {chosen : ℕ} (here : Standing s before chosen n)
     where
       there : i < now.count
-      there = omega (arith, after-count s n)
+      there = omega (arith, after_count s n)
 
-      reads : placeAt places i ≡ bare (at now i)
+      reads : place_at places i ≡ bare (at now i)
       reads = p.still i (omega arith) listed
 
-      true-sound : SoundPlace s.setting (at now i)
-      true-sound = subst (λ (x : Setting). SoundPlace x (at now i)) (after-setting s n) (job-sound now-sound i there)
+      true_sound : SoundPlace s.setting (at now i)
+      true_sound = subst (λ (x : Setting). SoundPlace x (at now i)) (after_setting s n) (job_sound now_sound i there)
 
-      true-fair : eqb i chosen ≡ true → candidateOf s.setting (at now i) ≡ true
-      true-fair e =
-          subst (λ (x : Setting). candidateOf x (at now i) ≡ true) (after-setting s n)
-          (chosen-candidate now i (omega (arith, sound.count.high)) (eqb-true i chosen e ∙ here.chosen_is))
+      true_fair : eqb i chosen ≡ true → candidate_of s.setting (at now i) ≡ true
+      true_fair e =
+          subst (λ (x : Setting). candidate_of x (at now i) ≡ true) (after_setting s n)
+          (chosen_candidate now i (omega (arith, sound.count.high)) (eqb-true i chosen e ∙ here.chosen_is))
 
-      pub pass-sound : SoundPlace s.setting (placeAt places i)
-      pass-sound = rw reads (bare-sound true-sound)
+      pub pass_sound : SoundPlace s.setting (place_at places i)
+      pass_sound = rw reads (bare_sound true_sound)
 
-      pub pass-fair : eqb i chosen ≡ true → candidateOf s.setting (placeAt places i) ≡ true
-      pass-fair e = rw reads (bare-candidate s.setting (at now i) ∙ true-fair e)
+      pub pass_fair : eqb i chosen ≡ true → candidate_of s.setting (place_at places i) ≡ true
+      pass_fair e = rw reads (bare_candidate s.setting (at now i) ∙ true_fair e)
 
       -- what the slot makes of the place
-      module _ {o : Passage} (moves : o ≡ passedOf s.setting (placeAt places i) (eqb i chosen)) where
-        same : o ≡ passedOf s.setting (bare (at now i)) (eqb i chosen)
-        same = moves ∙ ap (λ (q : Place). passedOf s.setting q (eqb i chosen)) reads
+      module _ {o : Passage} (moves : o ≡ passed_of s.setting (place_at places i) (eqb i chosen)) where
+        same : o ≡ passed_of s.setting (bare (at now i)) (eqb i chosen)
+        same = moves ∙ ap (λ (q : Place). passed_of s.setting q (eqb i chosen)) reads
 
-        true-place : (movedOf s.setting (at now i) (eqb i chosen)).place ≡ at (afterSlots s (n + 1)) i
-        true-place = cc (here.chosen_is, after-setting s n, turn-place now now-sound i there, after_more s n)
+        true_place : (moved_of s.setting (at now i) (eqb i chosen)).place ≡ at (after_slots s (n + 1)) i
+        true_place = cc (here.chosen_is, after_setting s n, turn_place now now_sound i there, after_more s n)
 
-        is-place : o.place ≡ bare (at (afterSlots s (n + 1)) i)
-        is-place =
+        is_place : o.place ≡ bare (at (after_slots s (n + 1)) i)
+        is_place =
             ap (λ (x : Passage). x.place) same
-            ∙ passed-place s.setting (at now i) (eqb i chosen)
-            ∙ ap bare true-place
+            ∙ passed_place s.setting (at now i) (eqb i chosen)
+            ∙ ap bare true_place
 
-        pub pass-short : o.short ≡ endsShortIn now i
-        pass-short =
+        pub pass_short : o.short ≡ ends_short_in now i
+        pass_short =
             ap (λ (x : Passage). x.short) same
-            ∙ passed-short s.setting (at now i) (eqb i chosen)
-            ∙ cc (here.chosen_is, after-setting s n)
+            ∙ passed_short s.setting (at now i) (eqb i chosen)
+            ∙ cc (here.chosen_is, after_setting s n)
 
-        pub pass-moved-sound : SoundPlace s.setting o.place
-        pass-moved-sound = rw same (passed-sound s.setting (at now i) (eqb i chosen) true-sound true-fair)
+        pub pass_moved_sound : SoundPlace s.setting o.place
+        pass_moved_sound = rw same (passed_sound s.setting (at now i) (eqb i chosen) true_sound true_fair)
 
-        pub pass-more : {best' : Held} → best' ≡ betterOf s.setting best i o.place → Passing s n (set places i o.place) best' (i + 1)
-        pass-more b =
+        pub pass_more : {best' : Held} → best' ≡ better_of s.setting best i o.place → Passing s n (set places i o.place) best' (i + 1)
+        pass_more b =
             record {
               within = omega arith;
               long = length-set places i o.place ∙ p.long;
               moved = λ j h. go j h (ℕ_discrete j i);
               still = λ j h inside. get_or-set_other places i j o.place blank (omega arith) ∙ p.still j (omega arith) inside;
-              best-is = b ∙ held_more;
-              best-small = rw b (better-small best pass-moved-sound p.best-small i);
+              best_is = b ∙ held_more;
+              best_small = rw b (better_small best pass_moved_sound p.best_small i);
             }
           where
-            go : (j : ℕ) → j < i + 1 → Dec (j ≡ i) → placeAt (set places i o.place) j ≡ bare (at (afterSlots s (n + 1)) j)
-            go j h (yes e) = rw e (get_or-set_same places i o.place blank (omega (arith, p.long, sound.count.high)) ∙ is-place)
+            go : (j : ℕ) → j < i + 1 → Dec (j ≡ i) → place_at (set places i o.place) j ≡ bare (at (after_slots s (n + 1)) j)
+            go j h (yes e) = rw e (get_or-set_same places i o.place blank (omega (arith, p.long, sound.count.high)) ∙ is_place)
             go j h (no ne) = get_or-set_other places i j o.place blank ne ∙ p.moved j (omega arith)
 
             next : List Place
-            next = (afterSlots s (n + 1)).places
+            next = (after_slots s (n + 1)).places
 
-            held_more : betterOf s.setting best i o.place ≡ heldUpto s.setting next (i + 1)
+            held_more : better_of s.setting best i o.place ≡ held_upto s.setting next (i + 1)
             held_more =
-                ap (betterOf s.setting best i) is-place
-                ∙ bare-better s.setting (placeAt next i) best i
-                ∙ ap (λ (x : Held). betterOf s.setting x i (placeAt next i)) p.best-is
-                ∙ held-step s.setting next i
+                ap (better_of s.setting best i) is_place
+                ∙ bare_better s.setting (place_at next i) best i
+                ∙ ap (λ (x : Held). better_of s.setting x i (place_at next i)) p.best_is
+                ∙ held_step s.setting next i

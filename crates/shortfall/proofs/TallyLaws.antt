@@ -10,25 +10,25 @@ use lib.Dec.{eqb}
 use lib.ListN.{length, set, replicate, length-set}
 use lib.Seq.{get_or-set_same, get_or-set_other, ext_get_or}
 use borrow.Author.Tests.{eqb-true, eqb-false, ne_eqb}
-use Rattle.job.specs.Limit.{countMost}
-use Rattle.job.proofs.FilledLaws.{none-at, filled-long, filled_at, filled-past}
+use Rattle.job.specs.Limit.{count_most}
+use Rattle.job.proofs.FilledLaws.{none_at, filled_long, filled_at, filled_past}
 use Rattle.run.specs.declared.state.State.{State}
-use Rattle.run.specs.Slot.{countUpto}
-use Rattle.run.specs.Run.{afterSlots}
-use Rattle.run.proofs.SlotLaws.{count-high, count-is}
+use Rattle.run.specs.Slot.{count_upto}
+use Rattle.run.specs.Run.{after_slots}
+use Rattle.run.proofs.SlotLaws.{count_high, count_is}
 use Rattle.shortfall.specs.declared.inner.Tally.{Tally}
-use Rattle.shortfall.proofs.CountLaws.{many-none}
-use Rattle.shortfall.specs.Tally.{endsShortIn, noTally, noted_of, tally_of, tallyAt, talliesOf}
+use Rattle.shortfall.proofs.CountLaws.{many_none}
+use Rattle.shortfall.specs.Tally.{ends_short_in, no_tally, noted_of, tally_of, tally_at, tallies_of}
 
 -- one short window more
 module _ (t : Tally) (n : ℕ) where
-  pub first-noted : t.short ≡ 0 → ◌≡◌ {A = Tally} (record { short = 1; first = n }) (noted_of t n)
+  pub first_noted : t.short ≡ 0 → ◌≡◌ {A = Tally} (record { short = 1; first = n }) (noted_of t n)
   unfolding noted_of
-  first-noted none = rw none
+  first_noted none = rw none
 
-  pub later-noted : ¬ (t.short ≡ 0) → ◌≡◌ {A = Tally} (record { short = t.short + 1; first = t.first }) (noted_of t n)
+  pub later_noted : ¬ (t.short ≡ 0) → ◌≡◌ {A = Tally} (record { short = t.short + 1; first = t.first }) (noted_of t n)
   unfolding noted_of
-  later-noted some = rw (ne_eqb t.short 0 some)
+  later_noted some = rw (ne_eqb t.short 0 some)
 
 -- x is the first of the numbers below n with a property
 pub record IsFirst (f : ℕ → Bool) (n x : ℕ) : Type 0 where
@@ -38,108 +38,108 @@ pub record IsFirst (f : ℕ → Bool) (n x : ℕ) : Type 0 where
 
 -- what a tally counts: the slots in which a window of the job ends short, and the first of them
 module _ (s : State) (j : ℕ) where
-  abbrev pub shortIn : ℕ → Bool
-  shortIn n = endsShortIn (afterSlots s n) j
+  abbrev pub short_in : ℕ → Bool
+  short_in n = ends_short_in (after_slots s n) j
 
-  counted-by : (b : Bool) (t : Tally) (n : ℕ) → (cond b (noted_of t n) t).short ≡ cond b (t.short + 1) t.short
+  counted_by : (b : Bool) (t : Tally) (n : ℕ) → (cond b (noted_of t n) t).short ≡ cond b (t.short + 1) t.short
   unfolding noted_of
-  counted-by true t n = refl
-  counted-by false t n = refl
+  counted_by true t n = refl
+  counted_by false t n = refl
 
-  pub tally-counts : (n : ℕ) → (tally_of s j n).short ≡ countUpto shortIn n
-  unfolding tally_of countUpto
-  tally-counts zero = refl
-  tally-counts (suc n) =
-      counted-by (shortIn n) (tally_of s j n) n ∙ ap (λ (x : ℕ). cond (shortIn n) (x + 1) x) (tally-counts n)
+  pub tally_counts : (n : ℕ) → (tally_of s j n).short ≡ count_upto short_in n
+  unfolding tally_of count_upto
+  tally_counts zero = refl
+  tally_counts (suc n) =
+      counted_by (short_in n) (tally_of s j n) n ∙ ap (λ (x : ℕ). cond (short_in n) (x + 1) x) (tally_counts n)
 
-  pub tally-high : (n : ℕ) → (tally_of s j n).short ≤ n
-  tally-high n = rw (tally-counts n) (count-high shortIn n)
+  pub tally_high : (n : ℕ) → (tally_of s j n).short ≤ n
+  tally_high n = rw (tally_counts n) (count_high short_in n)
 
-  pub tally-none : (n : ℕ) → ((i : ℕ) → i < n → shortIn i ≡ false) → tally_of s j n ≡ noTally
+  pub tally_none : (n : ℕ) → ((i : ℕ) → i < n → short_in i ≡ false) → tally_of s j n ≡ no_tally
   unfolding tally_of
-  tally-none zero none = refl
-  tally-none (suc n) none = rw (none n (omega arith)) (tally-none n (λ i h. none i (omega arith)))
+  tally_none zero none = refl
+  tally_none (suc n) none = rw (none n (omega arith)) (tally_none n (λ i h. none i (omega arith)))
 
-  pub tally-first : (n : ℕ) → 0 < (tally_of s j n).short → IsFirst shortIn n (tally_of s j n).first
+  pub tally_first : (n : ℕ) → 0 < (tally_of s j n).short → IsFirst short_in n (tally_of s j n).first
   unfolding tally_of noted_of
-  tally-first zero some = absurd (omega arith)
-  tally-first (suc n) some = go (shortIn n) refl (tally-first n) some
+  tally_first zero some = absurd (omega arith)
+  tally_first (suc n) some = go (short_in n) refl (tally_first n) some
     where
       was : Tally
       was = tally_of s j n
 
-      later : {x : ℕ} → IsFirst shortIn n x → IsFirst shortIn (suc n) x
+      later : {x : ℕ} → IsFirst short_in n x → IsFirst short_in (suc n) x
       later f = record { below = let b = f.below in omega arith; has = f.has; none_before = f.none_before }
 
-      new : shortIn n ≡ true → (none : Bool) → eqb was.short 0 ≡ none → (0 < was.short → IsFirst shortIn n was.first) → IsFirst shortIn (suc n) (cond none n was.first)
+      new : short_in n ≡ true → (none : Bool) → eqb was.short 0 ≡ none → (0 < was.short → IsFirst short_in n was.first) → IsFirst short_in (suc n) (cond none n was.first)
       new ends true e before =
           record {
             below = omega arith;
             has = ends;
-            none_before = many-none shortIn n (sym (count-is shortIn shortIn n (λ i h. refl)) ∙ sym (tally-counts n) ∙ eqb-true was.short 0 e);
+            none_before = many_none short_in n (sym (count_is short_in short_in n (λ i h. refl)) ∙ sym (tally_counts n) ∙ eqb-true was.short 0 e);
           }
       new ends false e before = later (before (let some = eqb-false was.short 0 e in omega arith))
 
       go :
-          (b : Bool) → shortIn n ≡ b → (0 < was.short → IsFirst shortIn n was.first) → 0 < (cond b (noted_of was n) was).short
-          → IsFirst shortIn (suc n) (cond b (noted_of was n) was).first
+          (b : Bool) → short_in n ≡ b → (0 < was.short → IsFirst short_in n was.first) → 0 < (cond b (noted_of was n) was).short
+          → IsFirst short_in (suc n) (cond b (noted_of was n) was).first
       go true e before some = new e (eqb was.short 0) refl before
       go false e before some = later (before some)
 
 -- before slot n, or in it when the first i jobs are told
 pub record Tallied (s : State) (n i : ℕ) (tallies : List Tally) : Type 0 where
-  pub long : length tallies ≡ countMost
-  pub told : (j : ℕ) → j < i → j < s.count → tallyAt tallies j ≡ tally_of s j (n + 1)
-  pub untold : (j : ℕ) → i ≤ j → j < s.count → tallyAt tallies j ≡ tally_of s j n
-  pub past : (j : ℕ) → s.count ≤ j → tallyAt tallies j ≡ noTally
+  pub long : length tallies ≡ count_most
+  pub told : (j : ℕ) → j < i → j < s.count → tally_at tallies j ≡ tally_of s j (n + 1)
+  pub untold : (j : ℕ) → i ≤ j → j < s.count → tally_at tallies j ≡ tally_of s j n
+  pub past : (j : ℕ) → s.count ≤ j → tally_at tallies j ≡ no_tally
 
-tally-more : (s : State) (j n : ℕ) → tally_of s j (n + 1) ≡ cond (endsShortIn (afterSlots s n) j) (noted_of (tally_of s j n) n) (tally_of s j n)
+tally_more : (s : State) (j n : ℕ) → tally_of s j (n + 1) ≡ cond (ends_short_in (after_slots s n) j) (noted_of (tally_of s j n) n) (tally_of s j n)
 unfolding tally_of
-tally-more s j n = ap (tally_of s j) (add-one n)
+tally_more s j n = ap (tally_of s j) (add-one n)
 
-none_yet : (s : State) (j : ℕ) → tally_of s j 0 ≡ noTally
+none_yet : (s : State) (j : ℕ) → tally_of s j 0 ≡ no_tally
 unfolding tally_of
 none_yet s j = refl
 
-pub tallies-start : (s : State) {none : Tally} → none ≡ noTally → Tallied s 0 0 (replicate countMost none)
+pub tallies_start : (s : State) {none : Tally} → none ≡ no_tally → Tallied s 0 0 (replicate count_most none)
 unfolding tally_of
-tallies-start s e =
+tallies_start s e =
     rw e
     (record {
       long = refl;
       told = λ j h listed. absurd (omega arith);
-      untold = λ j h listed. none-at noTally countMost j;
-      past = λ j h. none-at noTally countMost j;
+      untold = λ j h listed. none_at no_tally count_most j;
+      past = λ j h. none_at no_tally count_most j;
     })
 
-module _ (s : State) (few : s.count ≤ countMost) {n i : ℕ} {tallies : List Tally} (t : Tallied s n i tallies) where
+module _ (s : State) (few : s.count ≤ count_most) {n i : ℕ} {tallies : List Tally} (t : Tallied s n i tallies) where
   -- the tally that is read: no more windows are short than there were slots
-  pub tally-now : i < s.count → (tallyAt tallies i).short ≤ n
-  tally-now listed = rw (t.untold i (omega arith) listed) (tally-high s i n)
+  pub tally_now : i < s.count → (tally_at tallies i).short ≤ n
+  tally_now listed = rw (t.untold i (omega arith) listed) (tally_high s i n)
 
   -- one job more
-  module _ {short : Bool} (listed : i < s.count) (is : short ≡ endsShortIn (afterSlots s n) i) where
-    next : tally_of s i (n + 1) ≡ cond short (noted_of (tallyAt tallies i) n) (tallyAt tallies i)
-    next = cc (is, t.untold i (omega arith) listed, tally-more s i n)
+  module _ {short : Bool} (listed : i < s.count) (is : short ≡ ends_short_in (after_slots s n) i) where
+    next : tally_of s i (n + 1) ≡ cond short (noted_of (tally_at tallies i) n) (tally_at tallies i)
+    next = cc (is, t.untold i (omega arith) listed, tally_more s i n)
 
-    pub tallies-more : {tally : Tally} → short ≡ true → tally ≡ noted_of (tallyAt tallies i) n → Tallied s n (i + 1) (set tallies i tally)
-    tallies-more {tally} ends counts =
+    pub tallies_more : {tally : Tally} → short ≡ true → tally ≡ noted_of (tally_at tallies i) n → Tallied s n (i + 1) (set tallies i tally)
+    tallies_more {tally} ends counts =
         record {
           long = length-set tallies i tally ∙ t.long;
           told = λ j h inside. go j h inside (ℕ_discrete j i);
-          untold = λ j h inside. get_or-set_other tallies i j tally noTally (omega arith) ∙ t.untold j (omega arith) inside;
-          past = λ j h. get_or-set_other tallies i j tally noTally (omega arith) ∙ t.past j h;
+          untold = λ j h inside. get_or-set_other tallies i j tally no_tally (omega arith) ∙ t.untold j (omega arith) inside;
+          past = λ j h. get_or-set_other tallies i j tally no_tally (omega arith) ∙ t.past j h;
         }
       where
         now : tally ≡ tally_of s i (n + 1)
-        now = counts ∙ sym (next ∙ ap (λ (b : Bool). cond b (noted_of (tallyAt tallies i) n) (tallyAt tallies i)) ends)
+        now = counts ∙ sym (next ∙ ap (λ (b : Bool). cond b (noted_of (tally_at tallies i) n) (tally_at tallies i)) ends)
 
-        go : (j : ℕ) → j < i + 1 → j < s.count → Dec (j ≡ i) → tallyAt (set tallies i tally) j ≡ tally_of s j (n + 1)
-        go j h inside (yes e) = rw e (get_or-set_same tallies i tally noTally (omega (arith, t.long)) ∙ now)
-        go j h inside (no ne) = get_or-set_other tallies i j tally noTally ne ∙ t.told j (omega arith) inside
+        go : (j : ℕ) → j < i + 1 → j < s.count → Dec (j ≡ i) → tally_at (set tallies i tally) j ≡ tally_of s j (n + 1)
+        go j h inside (yes e) = rw e (get_or-set_same tallies i tally no_tally (omega (arith, t.long)) ∙ now)
+        go j h inside (no ne) = get_or-set_other tallies i j tally no_tally ne ∙ t.told j (omega arith) inside
 
-    pub tallies-same : short ≡ false → Tallied s n (i + 1) tallies
-    tallies-same full =
+    pub tallies_same : short ≡ false → Tallied s n (i + 1) tallies
+    tallies_same full =
         record {
           long = t.long;
           told = λ j h inside. go j h inside (ℕ_discrete j i);
@@ -147,35 +147,35 @@ module _ (s : State) (few : s.count ≤ countMost) {n i : ℕ} {tallies : List T
           past = t.past;
         }
       where
-        go : (j : ℕ) → j < i + 1 → j < s.count → Dec (j ≡ i) → tallyAt tallies j ≡ tally_of s j (n + 1)
-        go j h inside (yes e) = rw e (sym (next ∙ ap (λ (b : Bool). cond b (noted_of (tallyAt tallies i) n) (tallyAt tallies i)) full))
+        go : (j : ℕ) → j < i + 1 → j < s.count → Dec (j ≡ i) → tally_at tallies j ≡ tally_of s j (n + 1)
+        go j h inside (yes e) = rw e (sym (next ∙ ap (λ (b : Bool). cond b (noted_of (tally_at tallies i) n) (tally_at tallies i)) full))
         go j h inside (no ne) = t.told j (omega arith) inside
 
   -- all of them
-  pub tallies-next : i ≡ s.count → Tallied s (n + 1) 0 tallies
-  tallies-next all =
+  pub tallies_next : i ≡ s.count → Tallied s (n + 1) 0 tallies
+  tallies_next all =
       record { long = t.long; told = λ j h inside. absurd (omega arith); untold = λ j h inside. t.told j (omega arith) inside; past = t.past }
 
-  pub tallies-done : i ≡ 0 → tallies ≡ talliesOf s n
-  tallies-done none =
-      ext_get_or noTally tallies (talliesOf s n) (t.long ∙ sym (filled-long noTally (λ j. tally_of s j n) s.count))
+  pub tallies_done : i ≡ 0 → tallies ≡ tallies_of s n
+  tallies_done none =
+      ext_get_or no_tally tallies (tallies_of s n) (t.long ∙ sym (filled_long no_tally (λ j. tally_of s j n) s.count))
       (λ j h. go j (dec_lt j s.count))
     where
-      go : (j : ℕ) → Dec (j < s.count) → tallyAt tallies j ≡ tallyAt (talliesOf s n) j
-      go j (yes inside) = t.untold j (omega arith) inside ∙ sym (filled_at noTally (λ x. tally_of s x n) s.count j inside few)
-      go j (no out) = t.past j (omega arith) ∙ sym (filled-past noTally (λ x. tally_of s x n) s.count j (omega arith))
+      go : (j : ℕ) → Dec (j < s.count) → tally_at tallies j ≡ tally_at (tallies_of s n) j
+      go j (yes inside) = t.untold j (omega arith) inside ∙ sym (filled_at no_tally (λ x. tally_of s x n) s.count j inside few)
+      go j (no out) = t.past j (omega arith) ∙ sym (filled_past no_tally (λ x. tally_of s x n) s.count j (omega arith))
 
 -- where no job has a short window
-pub tallies-none :
-    (s : State) → s.count ≤ countMost → (n : ℕ) {none : Tally} → none ≡ noTally → ((j : ℕ) → j < s.count → tally_of s j n ≡ noTally)
-    → replicate countMost none ≡ talliesOf s n
-tallies-none s few n is never =
-    let start = tallies-start s is in
-    let still : Tallied s n 0 (replicate countMost _) =
+pub tallies_none :
+    (s : State) → s.count ≤ count_most → (n : ℕ) {none : Tally} → none ≡ no_tally → ((j : ℕ) → j < s.count → tally_of s j n ≡ no_tally)
+    → replicate count_most none ≡ tallies_of s n
+tallies_none s few n is never =
+    let start = tallies_start s is in
+    let still : Tallied s n 0 (replicate count_most _) =
     record {
       long = start.long;
       told = λ j h listed. absurd (omega arith);
       untold = λ j h listed. start.untold j h listed ∙ none_yet s j ∙ sym (never j listed);
       past = start.past;
     } in
-    tallies-done s few still refl
+    tallies_done s few still refl

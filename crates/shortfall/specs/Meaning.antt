@@ -4,8 +4,8 @@ use Rattle.std.specs.Prelude.{ℕ, ◌*◌, ◌≤◌, ◌<◌, ◌≡◌, ◌�
 use Rattle.job.specs.declared.list.JobList.{JobList}
 use Rattle.job.specs.declared.refusal.Refusal.TheVariants.{Overload}
 use Rattle.job.specs.declared.refusal.Checked.TheVariants.{Passed}
-use Rattle.job.specs.Limit.{countMost, relaxed, cycleMost}
-use Rattle.job.specs.Told.{row, toldChecked}
+use Rattle.job.specs.Limit.{count_most, relaxed, cycle_most}
+use Rattle.job.specs.Told.{row, told_checked}
 use Rattle.job.specs.Sound.{SoundList}
 use Rattle.admission.specs.declared.answer.Admission.TheVariants.{Refused}
 use Rattle.admission.specs.Promise.{VerdictPromise}
@@ -17,9 +17,9 @@ use Rattle.run.specs.declared.answer.Slot.{Slot}
 use Rattle.run.specs.declared.answer.Started.{Started}
 use Rattle.run.specs.Promise.{StartPromise}
 use Rattle.run.specs.Calls.{Run, bytes_of}
-use Rattle.run.specs.SlotMeaning.{howMany}
-use Rattle.rules.specs.Rules.{job_of, endsShort}
-use Rattle.lawful.specs.DemandThree.{Admits, windowOrder}
+use Rattle.run.specs.SlotMeaning.{how_many}
+use Rattle.rules.specs.Rules.{job_of, ends_short}
+use Rattle.lawful.specs.DemandThree.{Admits, window_order}
 use Rattle.shortfall.specs.declared.answer.First.TheVariants.{Never, Slot as InSlot}
 use Rattle.shortfall.specs.declared.answer.Below.{Below}
 use Rattle.shortfall.specs.declared.answer.Judgement.{Judgement}
@@ -35,14 +35,14 @@ pub record JobTold (l : JobList) (setting : Setting) (h j : ℕ) (a : Below) : T
   pub windows : a.windows * ((job_of l j).k * (job_of l j).t) ≡ h
   -- 'never' exactly if no slot up to the clock's limit ends a window of j short
   pub never :
-      (a.first ≡ Never) ↔ OfEveryRun l setting (λ bytes. (n : ℕ) → n < length bytes → endsShort l setting bytes n j ≡ false)
+      (a.first ≡ Never) ↔ OfEveryRun l setting (λ bytes. (n : ℕ) → n < length bytes → ends_short l setting bytes n j ≡ false)
   -- else the first slot told is the first of all, and it is within the cycle
   pub first :
       (n : ℕ) → a.first ≡ InSlot n
-      → (n < h) × OfEveryRun l setting (λ bytes. n < length bytes → (endsShort l setting bytes n j ≡ true) × ((i : ℕ) → i < n → endsShort l setting bytes i j ≡ false))
+      → (n < h) × OfEveryRun l setting (λ bytes. n < length bytes → (ends_short l setting bytes n j ≡ true) × ((i : ℕ) → i < n → ends_short l setting bytes i j ≡ false))
   -- in q whole cycles exactly q times the told number of windows are short
   pub cycles :
-      (q : ℕ) → OfEveryRun l setting (λ bytes. length bytes ≡ q * h → howMany (λ n. endsShort l setting bytes n j) (length bytes) ≡ q * a.short)
+      (q : ℕ) → OfEveryRun l setting (λ bytes. length bytes ≡ q * h → how_many (λ n. ends_short l setting bytes n j) (length bytes) ≡ q * a.short)
 
 -- past the last job, and where the list is refused
 abbrev pub nothing : Below
@@ -57,16 +57,16 @@ pub record CycleIs (l : JobList) (setting : Setting) (h : ℕ) : Type 0 where
 pub record ShortfallTold (l : JobList) (setting : Setting) (r : Judgement) : Type 0 where
   -- 'Refusals: those of a start (15, 1 to 6), then 8'
   pub starts : (s : Started) → StartPromise l setting s → (s.answer ≡ Passed → ⊥) → r.answer ≡ s.answer
-  pub row-eight : (toldChecked r.answer ≡ row 8 []) ↔ ((h : ℕ) × CycleIs l setting h × (cycleMost < h))
-  pub passes : (r.answer ≡ Passed) ↔ ((h : ℕ) × CycleIs l setting h × (h ≤ cycleMost))
-  pub long : length r.jobs ≡ countMost
+  pub row_eight : (told_checked r.answer ≡ row 8 []) ↔ ((h : ℕ) × CycleIs l setting h × (cycle_most < h))
+  pub passes : (r.answer ≡ Passed) ↔ ((h : ℕ) × CycleIs l setting h × (h ≤ cycle_most))
+  pub long : length r.jobs ≡ count_most
   pub jobs :
       r.answer ≡ Passed → (h : ℕ) → LeastCommonMultiple l h → (j : ℕ) → j < l.count
       → JobTold l setting h j (get_or r.jobs j nothing)
   pub others : (j : ℕ) → l.count ≤ j → get_or r.jobs j nothing ≡ nothing
   pub refused : (r.answer ≡ Passed → ⊥) → (j : ℕ) → get_or r.jobs j nothing ≡ nothing
   -- how many of the jobs fall below
-  pub fallen : r.fallen ≡ howMany (λ j. ltb 0 (get_or r.jobs j nothing).short) countMost
+  pub fallen : r.fallen ≡ how_many (λ j. ltb 0 (get_or r.jobs j nothing).short) count_most
 
 abbrev pub ShortfallAnswers : Type 0
 ShortfallAnswers = (l : JobList) (setting : Setting) (r : Judgement) → ShortfallPromise l setting r → ShortfallTold l setting r
@@ -74,7 +74,7 @@ ShortfallAnswers = (l : JobList) (setting : Setting) (r : Judgement) → Shortfa
 -- 'for an admitted list, relaxed, order W, every job is never', spare on or off
 abbrev pub AdmittedNever : Type 0
 AdmittedNever =
-    (l : JobList) → Admits l → (spare : Bool) (r : Judgement) → ShortfallPromise l (windowOrder spare) r
+    (l : JobList) → Admits l → (spare : Bool) (r : Judgement) → ShortfallPromise l (window_order spare) r
     → (r.answer ≡ Passed) × (r.fallen ≡ 0) × ((j : ℕ) → (get_or r.jobs j nothing).first ≡ Never)
 
 -- 'for a list that row 9 refuses, relaxed, at least one job is not, whatever the order and spare'

@@ -4,61 +4,61 @@ use Rattle.job.specs.declared.record.Job.{Job}
 use Rattle.job.specs.declared.list.JobList.{JobList}
 use Rattle.job.specs.declared.refusal.Checked.{Checked}
 use Rattle.job.specs.declared.refusal.Checked.TheVariants.{Passed}
-use Rattle.job.specs.Limit.{countMost, cycleMost}
+use Rattle.job.specs.Limit.{count_most, cycle_most}
 use Rattle.job.specs.Told.{Told, row, passed}
-use Rattle.job.specs.Check.{jobAt, otherwise}
-use Rattle.job.specs.Filled.{filledUpto}
-use Rattle.job.specs.Window.{windowOf}
-use Rattle.admission.specs.Cycle.{cycleOf}
+use Rattle.job.specs.Check.{job_at, otherwise}
+use Rattle.job.specs.Filled.{filled_upto}
+use Rattle.job.specs.Window.{window_of}
+use Rattle.admission.specs.Cycle.{cycle_of}
 use Rattle.place.specs.declared.setting.Setting.{Setting}
 use Rattle.run.specs.State.{fresh_of}
-use Rattle.run.specs.Slot.{countUpto}
-use Rattle.run.specs.Step.{startTold}
+use Rattle.run.specs.Slot.{count_upto}
+use Rattle.run.specs.Step.{start_told}
 use Rattle.shortfall.specs.declared.inner.Tally.{Tally}
 use Rattle.shortfall.specs.declared.answer.First.{First}
 use Rattle.shortfall.specs.declared.answer.First.TheVariants.{Never, Slot}
 use Rattle.shortfall.specs.declared.answer.Below.{Below}
 use Rattle.shortfall.specs.declared.answer.Judgement.{Judgement}
-use Rattle.shortfall.specs.Tally.{tallyAt, talliesOf}
+use Rattle.shortfall.specs.Tally.{tally_at, tallies_of}
 
 -- one job, by its short windows in one cycle
 unfoldable pub first_of : Tally → First
 first_of t = cond (eqb t.short 0) Never (Slot t.first)
 
-abbrev pub belowOf : Job → ℕ → Tally → Below
-belowOf job cycle t = record { windows = cycle / windowOf job; short = t.short; first = first_of t }
+abbrev pub below_of : Job → ℕ → Tally → Below
+below_of job cycle t = record { windows = cycle / window_of job; short = t.short; first = first_of t }
 
-abbrev pub noneBelow : Below
-noneBelow = record { windows = 0; short = 0; first = Never }
+abbrev pub none_below : Below
+none_below = record { windows = 0; short = 0; first = Never }
 
-abbrev pub nothingJudged : Checked → Judgement
-nothingJudged answer = record { answer = answer; fallen = 0; jobs = replicate countMost noneBelow }
+abbrev pub nothing_judged : Checked → Judgement
+nothing_judged answer = record { answer = answer; fallen = 0; jobs = replicate count_most none_below }
 
 -- the first n jobs of a list
-abbrev pub judgedUpto : JobList → ℕ → List Tally → ℕ → Judgement
-judgedUpto l cycle tallies n =
+abbrev pub judged_upto : JobList → ℕ → List Tally → ℕ → Judgement
+judged_upto l cycle tallies n =
     record {
       answer = Passed;
-      fallen = countUpto (λ i. ltb 0 (tallyAt tallies i).short) n;
-      jobs = filledUpto noneBelow (λ i. belowOf (jobAt l.jobs i) cycle (tallyAt tallies i)) n;
+      fallen = count_upto (λ i. ltb 0 (tally_at tallies i).short) n;
+      jobs = filled_upto none_below (λ i. below_of (job_at l.jobs i) cycle (tally_at tallies i)) n;
     }
 
-abbrev pub judgedOf : JobList → ℕ → List Tally → Judgement
-judgedOf l cycle tallies = judgedUpto l cycle tallies l.count
+abbrev pub judged_of : JobList → ℕ → List Tally → Judgement
+judged_of l cycle tallies = judged_upto l cycle tallies l.count
 
 -- 'Refusals: those of a start (15, 1 to 6), then 8.'
-unfoldable pub shortfallTold : JobList → Setting → Told
-shortfallTold l setting = otherwise (startTold l setting) (cond (ltb cycleMost (cycleOf l)) (row 8 []) passed)
+unfoldable pub shortfall_told : JobList → Setting → Told
+shortfall_told l setting = otherwise (start_told l setting) (cond (ltb cycle_most (cycle_of l)) (row 8 []) passed)
 
 -- 'runs one cycle from slot 0'
-abbrev pub cycleJudged : JobList → Setting → Judgement
-cycleJudged l setting = judgedOf l (cycleOf l) (talliesOf (fresh_of l setting) (cycleOf l))
+abbrev pub cycle_judged : JobList → Setting → Judgement
+cycle_judged l setting = judged_of l (cycle_of l) (tallies_of (fresh_of l setting) (cycle_of l))
 
 abbrev judges : JobList → Setting → Bool
-judges l setting = eqb (shortfallTold l setting).number 0
+judges l setting = eqb (shortfall_told l setting).number 0
 
-unfoldable pub shortfallCount : JobList → Setting → ℕ
-shortfallCount l setting = cond (judges l setting) (cycleJudged l setting).fallen 0
+unfoldable pub shortfall_count : JobList → Setting → ℕ
+shortfall_count l setting = cond (judges l setting) (cycle_judged l setting).fallen 0
 
-unfoldable pub shortfallJobs : JobList → Setting → List Below
-shortfallJobs l setting = cond (judges l setting) (cycleJudged l setting).jobs (replicate countMost noneBelow)
+unfoldable pub shortfall_jobs : JobList → Setting → List Below
+shortfall_jobs l setting = cond (judges l setting) (cycle_judged l setting).jobs (replicate count_most none_below)

@@ -1,8 +1,8 @@
 // The run of one cycle, behind the checks already made.
 ghost use Rattle.std.specs.Prelude.{◌≡◌, ◌+◌, ◌<◌, ◌≤◌};
-ghost use Rattle.run.specs.State.{clockMost};
+ghost use Rattle.run.specs.State.{clock_most};
 ghost use Rattle.run.specs.Sound.{SoundState};
-ghost use Rattle.shortfall.specs.Tally.{NoTags, noTally, noted_of, talliesOf};
+ghost use Rattle.shortfall.specs.Tally.{NoTags, no_tally, noted_of, tallies_of};
 
 use job::JobList;
 use place::inner::choice::{better, nobody};
@@ -18,14 +18,14 @@ pub struct Tally {
 }
 
 pub(crate) fn no_tally() -> Tally
-    ensures { result ≡ noTally }
+    ensures { result ≡ no_tally }
 {
     Tally { short: 0, first: 0 }
 }
 
 // One short window more, which ends with slot n.
 fn noted(tally: Tally, n: u32) -> Tally
-    requires { tally.short < clockMost }
+    requires { tally.short < clock_most }
     ensures { result ≡ noted_of tally n }
 {
     if tally.short == 0 {
@@ -42,9 +42,9 @@ fn noted(tally: Tally, n: u32) -> Tally
 // are not told, and so not kept: no place has one.
 pub(crate) fn run_through(state: State, slots: u32) -> [Tally; JobList::COUNT_MOST]
     requires sound_state { SoundState state }
-    requires slots_bound { state.clock + slots ≤ clockMost }
+    requires slots_bound { state.clock + slots ≤ clock_most }
     requires no_tags { NoTags state }
-    ensures { result ≡ talliesOf state slots }
+    ensures { result ≡ tallies_of state slots }
 {
     let setting = state.setting;
     let mut places = state.places;

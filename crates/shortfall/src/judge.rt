@@ -1,13 +1,13 @@
 // The answer for every list and setting.
 ghost use Rattle.std.specs.Prelude.{◌≡◌, ◌≤◌};
-ghost use Rattle.job.specs.Limit.{cycleMost};
+ghost use Rattle.job.specs.Limit.{cycle_most};
 ghost use Rattle.job.specs.Sound.{SoundJob, SoundList};
-ghost use Rattle.admission.specs.Cycle.{cycleOf};
+ghost use Rattle.admission.specs.Cycle.{cycle_of};
 ghost use Rattle.admission.specs.Load.{load_of};
 ghost use Rattle.place.specs.Sound.{Allowed};
 ghost use Rattle.run.specs.State.{fresh_of};
-ghost use Rattle.shortfall.specs.Tally.{talliesOf};
-ghost use Rattle.shortfall.specs.Shortfall.{first_of, belowOf, nothingJudged, judgedOf};
+ghost use Rattle.shortfall.specs.Tally.{tallies_of};
+ghost use Rattle.shortfall.specs.Shortfall.{first_of, below_of, nothing_judged, judged_of};
 ghost use Rattle.shortfall.specs.Promise.{ShortfallPromise};
 
 use crate::answer::{Below, First, Judgement};
@@ -30,7 +30,7 @@ fn first_of(tally: Tally) -> First
 // One job's answer; H / kT windows a cycle.
 fn below(job: Job, cycle: u32, tally: Tally) -> Below
     requires { SoundJob job }
-    ensures { result ≡ belowOf job cycle tally }
+    ensures { result ≡ below_of job cycle tally }
 {
     Below {
         windows: cycle / (job.k * job.t),
@@ -41,7 +41,7 @@ fn below(job: Job, cycle: u32, tally: Tally) -> Below
 
 // Nothing is told of any job.
 fn nothing(answer: Checked) -> Judgement
-    ensures { result ≡ nothingJudged answer }
+    ensures { result ≡ nothing_judged answer }
 {
     let none = Below {
         windows: 0,
@@ -58,7 +58,7 @@ fn nothing(answer: Checked) -> Judgement
 // Each job's answer, by its short windows in one cycle.
 fn told(list: JobList, cycle: u32, tallies: [Tally; JobList::COUNT_MOST]) -> Judgement
     requires { SoundList list }
-    ensures { result ≡ judgedOf list cycle tallies }
+    ensures { result ≡ judged_of list cycle tallies }
 {
     let mut all = nothing(Checked::Passed);
     let mut at: usize = 0;
@@ -77,8 +77,8 @@ fn told(list: JobList, cycle: u32, tallies: [Tally; JobList::COUNT_MOST]) -> Jud
 fn by_run(list: JobList, setting: Setting, cycle: u64) -> Judgement
     requires sound_list { SoundList list }
     requires allowed { Allowed setting }
-    requires cycle_le_cycle_most { cycle ≤ cycleMost }
-    ensures { result ≡ judgedOf list cycle (talliesOf (fresh_of list setting) cycle) }
+    requires cycle_le_cycle_most { cycle ≤ cycle_most }
+    ensures { result ≡ judged_of list cycle (tallies_of (fresh_of list setting) cycle) }
 {
     let slots = cycle as u32;
     told(list, slots, run_through(State::fresh(list, setting), slots))
@@ -89,10 +89,10 @@ fn by_run(list: JobList, setting: Setting, cycle: u64) -> Judgement
 fn admitted(list: JobList, setting: Setting, cycle: u64) -> Judgement
     requires sound_list { SoundList list }
     requires allowed { Allowed setting }
-    requires cycle_le_cycle_most { cycle ≤ cycleMost }
-    requires cycle_value { cycle ≡ cycleOf list }
+    requires cycle_le_cycle_most { cycle ≤ cycle_most }
+    requires cycle_value { cycle ≡ cycle_of list }
     requires cycle_bound { load_of list cycle ≤ cycle }
-    ensures { result ≡ judgedOf list cycle (talliesOf (fresh_of list setting) cycle) }
+    ensures { result ≡ judged_of list cycle (tallies_of (fresh_of list setting) cycle) }
 {
     if (setting.order == Setting::W) & (setting.model == Job::RELAXED) {
         let none = [no_tally(); JobList::COUNT_MOST];

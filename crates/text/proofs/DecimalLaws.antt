@@ -8,7 +8,7 @@ use native.Mathlib.Decide.{dec_lt}
 use native.Mathlib.Omega.{arith}
 use lib.ListN.{length, get_or, length-append, get_or-append}
 use borrow.Author.Tests.{eq-eqb, ne_eqb}
-use Rattle.text.specs.Decimal.{digitsOf, countIn, decimalOf}
+use Rattle.text.specs.Decimal.{digits_of, count_in, decimal_of}
 
 -- every number is a digit, or a positive number times ten plus a digit
 pub by_digits :
@@ -26,160 +26,160 @@ by_digits P one more x = within x x (omega arith)
             subst P same (more (y / 10) (y % 10) (omega arith) (omega arith) (before (y / 10) (omega arith)))
 
 -- how many digits
-pub count-one : (n x : ℕ) → x < 10 → countIn n x ≡ 1
-unfolding countIn
-count-one zero x h = refl
-count-one (suc n) x h = rw (countIn, eq-eqb (x / 10) 0 (omega arith))
+pub count_one : (n x : ℕ) → x < 10 → count_in n x ≡ 1
+unfolding count_in
+count_one zero x h = refl
+count_one (suc n) x h = rw (count_in, eq-eqb (x / 10) 0 (omega arith))
 
-pub count-more : (n x : ℕ) → 10 ≤ x → countIn (suc n) x ≡ countIn n (x / 10) + 1
-unfolding countIn
-count-more n x h = rw (countIn, ne_eqb (x / 10) 0 (omega arith))
+pub count_more : (n x : ℕ) → 10 ≤ x → count_in (suc n) x ≡ count_in n (x / 10) + 1
+unfolding count_in
+count_more n x h = rw (count_in, ne_eqb (x / 10) 0 (omega arith))
 
 -- a longer count is the same, where the shorter one is long enough
-count-enough : (n x : ℕ) → x < 10 ^ suc n → countIn n x ≡ countIn (suc n) x
-count-enough zero x h = count-one 0 x h ∙ sym (count-one 1 x h)
-count-enough (suc n) x h = go (dec_lt x 10) (count-enough n (x / 10) (omega (arith, pow-suc 10 (suc n))))
+count_enough : (n x : ℕ) → x < 10 ^ suc n → count_in n x ≡ count_in (suc n) x
+count_enough zero x h = count_one 0 x h ∙ sym (count_one 1 x h)
+count_enough (suc n) x h = go (dec_lt x 10) (count_enough n (x / 10) (omega (arith, pow-suc 10 (suc n))))
   where
-    go : Dec (x < 10) → countIn n (x / 10) ≡ countIn (suc n) (x / 10) → countIn (suc n) x ≡ countIn (suc (suc n)) x
-    go (yes small) e = count-one (suc n) x small ∙ sym (count-one (suc (suc n)) x small)
-    go (no big) e = count-more n x (omega arith) ∙ ap (◌+ 1) e ∙ sym (count-more (suc n) x (omega arith))
+    go : Dec (x < 10) → count_in n (x / 10) ≡ count_in (suc n) (x / 10) → count_in (suc n) x ≡ count_in (suc (suc n)) x
+    go (yes small) e = count_one (suc n) x small ∙ sym (count_one (suc (suc n)) x small)
+    go (no big) e = count_more n x (omega arith) ∙ ap (◌+ 1) e ∙ sym (count_more (suc n) x (omega arith))
 
-count_most : (k n x : ℕ) → x < 10 ^ suc k → countIn n x ≤ suc k
-unfolding countIn
-count_most k zero x h = omega arith
-count_most zero (suc n) x h = omega (arith, count-one (suc n) x h)
-count_most (suc k) (suc n) x h = go (dec_lt x 10) (count_most k n (x / 10) (omega (arith, pow-suc 10 (suc k))))
+count_most_lem : (k n x : ℕ) → x < 10 ^ suc k → count_in n x ≤ suc k
+unfolding count_in
+count_most_lem k zero x h = omega arith
+count_most_lem zero (suc n) x h = omega (arith, count_one (suc n) x h)
+count_most_lem (suc k) (suc n) x h = go (dec_lt x 10) (count_most_lem k n (x / 10) (omega (arith, pow-suc 10 (suc k))))
   where
-    go : Dec (x < 10) → countIn n (x / 10) ≤ suc k → countIn (suc n) x ≤ suc (suc k)
-    go (yes small) most = omega (arith, count-one (suc n) x small)
-    go (no big) most = omega (arith, count-more n x (omega arith))
+    go : Dec (x < 10) → count_in n (x / 10) ≤ suc k → count_in (suc n) x ≤ suc (suc k)
+    go (yes small) most = omega (arith, count_one (suc n) x small)
+    go (no big) most = omega (arith, count_more n x (omega arith))
 
-count-some : (n x : ℕ) → 0 < countIn n x
-unfolding countIn
-count-some zero x = omega arith
-count-some (suc n) x = go (dec_lt x 10)
+count_some : (n x : ℕ) → 0 < count_in n x
+unfolding count_in
+count_some zero x = omega arith
+count_some (suc n) x = go (dec_lt x 10)
   where
-    go : Dec (x < 10) → 0 < countIn (suc n) x
-    go (yes small) = omega (arith, count-one (suc n) x small)
-    go (no big) = omega (arith, count-more n x (omega arith))
+    go : Dec (x < 10) → 0 < count_in (suc n) x
+    go (yes small) = omega (arith, count_one (suc n) x small)
+    go (no big) = omega (arith, count_more n x (omega arith))
 
-count_long : (n x : ℕ) → x < 10 ^ suc n → x < 10 ^ countIn n x
-unfolding countIn
+count_long : (n x : ℕ) → x < 10 ^ suc n → x < 10 ^ count_in n x
+unfolding count_in
 count_long zero x h = h
 count_long (suc n) x h = go (dec_lt x 10) (count_long n (x / 10) (omega (arith, pow-suc 10 (suc n))))
   where
-    go : Dec (x < 10) → x / 10 < 10 ^ countIn n (x / 10) → x < 10 ^ countIn (suc n) x
-    go (yes small) long = rw (count-one (suc n) x small) small
-    go (no big) long = rw (count-more n x (omega arith), add-one) (omega (arith, pow-suc 10 (countIn n (x / 10))))
+    go : Dec (x < 10) → x / 10 < 10 ^ count_in n (x / 10) → x < 10 ^ count_in (suc n) x
+    go (yes small) long = rw (count_one (suc n) x small) small
+    go (no big) long = rw (count_more n x (omega arith), add-one) (omega (arith, pow-suc 10 (count_in n (x / 10))))
 
 -- the digits
-pub length_digits : (n x : ℕ) → length (digitsOf n x) ≡ n
-unfolding digitsOf
+pub length_digits : (n x : ℕ) → length (digits_of n x) ≡ n
+unfolding digits_of
 length_digits zero x = refl
 length_digits (suc n) x =
-    length-append (digitsOf n (x / 10)) ((48 + x % 10) ∷ []) ∙ omega (arith, length_digits n (x / 10))
+    length-append (digits_of n (x / 10)) ((48 + x % 10) ∷ []) ∙ omega (arith, length_digits n (x / 10))
 
 pub data Digits : List ℕ → Type 0 where
   none : Digits []
   more : {b : ℕ} {bytes : List ℕ} → 48 ≤ b → b ≤ 57 → Digits bytes → Digits (b ∷ bytes)
 
-one-more-digit : {b : ℕ} {bytes : List ℕ} → Digits bytes → 48 ≤ b → b ≤ 57 → Digits (bytes ++ (b ∷ []))
-one-more-digit none low high = more low high none
-one-more-digit (more l h digits) low high = more l h (one-more-digit digits low high)
+one_more_digit : {b : ℕ} {bytes : List ℕ} → Digits bytes → 48 ≤ b → b ≤ 57 → Digits (bytes ++ (b ∷ []))
+one_more_digit none low high = more low high none
+one_more_digit (more l h digits) low high = more l h (one_more_digit digits low high)
 
-all_digits : (n x : ℕ) → Digits (digitsOf n x)
-unfolding digitsOf
+all_digits : (n x : ℕ) → Digits (digits_of n x)
+unfolding digits_of
 all_digits zero x = none
-all_digits (suc n) x = one-more-digit (all_digits n (x / 10)) (omega arith) (omega arith)
+all_digits (suc n) x = one_more_digit (all_digits n (x / 10)) (omega arith) (omega arith)
 
 -- the number that digits say, after v
-pub saidFrom : ℕ → List ℕ → ℕ
-saidFrom v [] = v
-saidFrom v (b ∷ bytes) = saidFrom (v * 10 + (b - 48)) bytes
+pub said_from : ℕ → List ℕ → ℕ
+said_from v [] = v
+said_from v (b ∷ bytes) = said_from (v * 10 + (b - 48)) bytes
 
-said_more : (v : ℕ) (bytes : List ℕ) (b : ℕ) → saidFrom v (bytes ++ (b ∷ [])) ≡ saidFrom v bytes * 10 + (b - 48)
-unfolding saidFrom
+said_more : (v : ℕ) (bytes : List ℕ) (b : ℕ) → said_from v (bytes ++ (b ∷ [])) ≡ said_from v bytes * 10 + (b - 48)
+unfolding said_from
 said_more v [] b = refl
 said_more v (a ∷ bytes) b = said_more (v * 10 + (a - 48)) bytes b
 
-digits-say : (n x : ℕ) → x < 10 ^ n → saidFrom 0 (digitsOf n x) ≡ x
-unfolding digitsOf saidFrom
-digits-say zero x h = omega arith
-digits-say (suc n) x h =
-    said_more 0 (digitsOf n (x / 10)) (48 + x % 10) ∙ omega (arith, digits-say n (x / 10) (omega (arith, pow-suc 10 n)))
+digits_say : (n x : ℕ) → x < 10 ^ n → said_from 0 (digits_of n x) ≡ x
+unfolding digits_of said_from
+digits_say zero x h = omega arith
+digits_say (suc n) x h =
+    said_more 0 (digits_of n (x / 10)) (48 + x % 10) ∙ omega (arith, digits_say n (x / 10) (omega (arith, pow-suc 10 n)))
 
 -- the decimal
-pub decimal-digits : (x : ℕ) → Digits (decimalOf x)
-unfolding decimalOf
-decimal-digits x = all_digits (countIn 19 x) x
+pub decimal_digits : (x : ℕ) → Digits (decimal_of x)
+unfolding decimal_of
+decimal_digits x = all_digits (count_in 19 x) x
 
-pub decimal-count : (x : ℕ) → length (decimalOf x) ≡ countIn 19 x
-unfolding decimalOf
-decimal-count x = length_digits (countIn 19 x) x
+pub decimal_count : (x : ℕ) → length (decimal_of x) ≡ count_in 19 x
+unfolding decimal_of
+decimal_count x = length_digits (count_in 19 x) x
 
-pub decimal-some : (x : ℕ) → 0 < length (decimalOf x)
-unfolding decimalOf
-decimal-some x = omega (arith, length_digits (countIn 19 x) x, count-some 19 x)
+pub decimal_some : (x : ℕ) → 0 < length (decimal_of x)
+unfolding decimal_of
+decimal_some x = omega (arith, length_digits (count_in 19 x) x, count_some 19 x)
 
-pub decimal-length : (k x : ℕ) → x < 10 ^ suc k → length (decimalOf x) ≤ suc k
-unfolding decimalOf
-decimal-length k x h = omega (arith, length_digits (countIn 19 x) x, count_most k 19 x h)
+pub decimal_length : (k x : ℕ) → x < 10 ^ suc k → length (decimal_of x) ≤ suc k
+unfolding decimal_of
+decimal_length k x h = omega (arith, length_digits (count_in 19 x) x, count_most_lem k 19 x h)
 
-pub decimal-one : (d : ℕ) → d < 10 → decimalOf d ≡ (48 + d) ∷ []
-unfolding decimalOf digitsOf
-decimal-one d h = rw (count-one 19 d h) (ap (λ (e : ℕ). (48 + e) ∷ []) (mod-eq_of_lt h))
+pub decimal_one : (d : ℕ) → d < 10 → decimal_of d ≡ (48 + d) ∷ []
+unfolding decimal_of digits_of
+decimal_one d h = rw (count_one 19 d h) (ap (λ (e : ℕ). (48 + e) ∷ []) (mod-eq_of_lt h))
 
 module _ (x : ℕ) (fits : x < 10 ^ 20) where
   -- the number is below the power of ten of its length
-  pub decimal-long : x < 10 ^ length (decimalOf x)
-  unfolding decimalOf
-  decimal-long = rw (length_digits (countIn 19 x) x) (count_long 19 x fits)
+  pub decimal_long : x < 10 ^ length (decimal_of x)
+  unfolding decimal_of
+  decimal_long = rw (length_digits (count_in 19 x) x) (count_long 19 x fits)
 
-  pub decimal-says : saidFrom 0 (decimalOf x) ≡ x
-  unfolding decimalOf
-  decimal-says = digits-say (countIn 19 x) x (count_long 19 x fits)
+  pub decimal_says : said_from 0 (decimal_of x) ≡ x
+  unfolding decimal_of
+  decimal_says = digits_say (count_in 19 x) x (count_long 19 x fits)
 
-pub decimal-one-to-one : (x y : ℕ) → x < 10 ^ 20 → y < 10 ^ 20 → decimalOf x ≡ decimalOf y → x ≡ y
-decimal-one-to-one x y hx hy e = sym (decimal-says x hx) ∙ ap (saidFrom 0) e ∙ decimal-says y hy
+pub decimal_one_to_one : (x y : ℕ) → x < 10 ^ 20 → y < 10 ^ 20 → decimal_of x ≡ decimal_of y → x ≡ y
+decimal_one_to_one x y hx hy e = sym (decimal_says x hx) ∙ ap (said_from 0) e ∙ decimal_says y hy
 
 module _ (x d : ℕ) (some : 0 < x) (digit : d < 10) (fits : x * 10 + d < 10 ^ 20) where
-  pub decimal-more : decimalOf (x * 10 + d) ≡ decimalOf x ++ ((48 + d) ∷ [])
-  unfolding decimalOf digitsOf
-  decimal-more =
+  pub decimal_more : decimal_of (x * 10 + d) ≡ decimal_of x ++ ((48 + d) ∷ [])
+  unfolding decimal_of digits_of
+  decimal_more =
       let front : (x * 10 + d) / 10 ≡ x = omega arith in
       let last : (x * 10 + d) % 10 ≡ d = omega arith in
-      let count : countIn 19 (x * 10 + d) ≡ suc (countIn 19 x) =
-      count-more 18 (x * 10 + d) (omega arith)
-      ∙ ap (λ (y : ℕ). countIn 18 y + 1) front
-      ∙ ap (◌+ 1) (count-enough 18 x (omega arith))
-      ∙ add-one (countIn 19 x) in
-      rw (count, digitsOf, front, last)
+      let count : count_in 19 (x * 10 + d) ≡ suc (count_in 19 x) =
+      count_more 18 (x * 10 + d) (omega arith)
+      ∙ ap (λ (y : ℕ). count_in 18 y + 1) front
+      ∙ ap (◌+ 1) (count_enough 18 x (omega arith))
+      ∙ add-one (count_in 19 x) in
+      rw (count, digits_of, front, last)
 
 -- no leading zero
-pub first-digit : (x : ℕ) → 0 < x → x < 10 ^ 20 → 48 < get_or (decimalOf x) 0 0
-first-digit x =
-    by_digits (λ y. 0 < y → y < 10 ^ 20 → 48 < get_or (decimalOf y) 0 0)
-    (λ d h some fits. rw (decimal-one d h) (omega arith))
+pub first_digit : (x : ℕ) → 0 < x → x < 10 ^ 20 → 48 < get_or (decimal_of x) 0 0
+first_digit x =
+    by_digits (λ y. 0 < y → y < 10 ^ 20 → 48 < get_or (decimal_of y) 0 0)
+    (λ d h some fits. rw (decimal_one d h) (omega arith))
     (λ y d low h first some fits.
-    rw (decimal-more y d low h fits, get_or-append (decimalOf y) ((48 + d) ∷ []) 0 0 (decimal-some y))
+    rw (decimal_more y d low h fits, get_or-append (decimal_of y) ((48 + d) ∷ []) 0 0 (decimal_some y))
     (first low (omega arith)))
     x
 
 -- a number is read off the front of a text, up to a byte that is no digit
-digits-cut :
+digits_cut :
     {s t : List ℕ} → Digits s → Digits t → {a b : ℕ} {p q : List ℕ} → a < 48 → b < 48 → s ++ (a ∷ p) ≡ t ++ (b ∷ q)
     → (s ≡ t) × (a ∷ p ≡ b ∷ q)
-digits-cut none none ha hb e = (refl, e)
-digits-cut none (more low high t) ha hb e = absurd (omega (arith, head-eq_of_cons-eq e))
-digits-cut (more low high s) none ha hb e = absurd (omega (arith, head-eq_of_cons-eq e))
-digits-cut (more low high s) (more low' high' t) ha hb e =
-    let rest = digits-cut s t ha hb (tail-eq_of_cons-eq e) in
+digits_cut none none ha hb e = (refl, e)
+digits_cut none (more low high t) ha hb e = absurd (omega (arith, head-eq_of_cons-eq e))
+digits_cut (more low high s) none ha hb e = absurd (omega (arith, head-eq_of_cons-eq e))
+digits_cut (more low high s) (more low' high' t) ha hb e =
+    let rest = digits_cut s t ha hb (tail-eq_of_cons-eq e) in
     let head = head-eq_of_cons-eq e in
     (cc, rest.1)
 
-pub decimal-cut :
+pub decimal_cut :
     (x y : ℕ) {a b : ℕ} {p q : List ℕ} → x < 10 ^ 20 → y < 10 ^ 20 → a < 48 → b < 48
-    → decimalOf x ++ (a ∷ p) ≡ decimalOf y ++ (b ∷ q) → (x ≡ y) × (a ∷ p ≡ b ∷ q)
-decimal-cut x y hx hy ha hb e =
-    let cut = digits-cut (decimal-digits x) (decimal-digits y) ha hb e in
-    (decimal-one-to-one x y hx hy cut.0, cut.1)
+    → decimal_of x ++ (a ∷ p) ≡ decimal_of y ++ (b ∷ q) → (x ≡ y) × (a ∷ p ≡ b ∷ q)
+decimal_cut x y hx hy ha hb e =
+    let cut = digits_cut (decimal_digits x) (decimal_digits y) ha hb e in
+    (decimal_one_to_one x y hx hy cut.0, cut.1)

@@ -9,9 +9,9 @@ use Rattle.text.specs.Written.{written}
 use Rattle.text.specs.Word.{word_bytes}
 use Rattle.text.proofs.WrittenLaws.{written_none, written_next}
 
-pub word-long : (x : ℕ) → length (word_bytes x) ≡ 4
+pub word_long : (x : ℕ) → length (word_bytes x) ≡ 4
 unfolding word_bytes
-word-long x = refl
+word_long x = refl
 
 -- a number in its four parts
 in_parts : (x : ℕ) → x < 2 ^ 32 → x ≡ x % 256 + 256 * (x / 256 % 256) + 65536 * (x / 65536 % 256) + 16777216 * (x / 16777216 % 256)
@@ -22,19 +22,19 @@ in_parts x fits =
     omega arith
 
 -- low byte first
-pub word-reads-back :
+pub word_reads_back :
     (x : ℕ) → x < 2 ^ 32
     → x ≡ get_or (word_bytes x) 0 0 + 256 * get_or (word_bytes x) 1 0 + 65536 * get_or (word_bytes x) 2 0 + 16777216 * get_or (word_bytes x) 3 0
 unfolding word_bytes
-word-reads-back x fits = in_parts x fits
+word_reads_back x fits = in_parts x fits
 
-pub word-bytes : (x i : ℕ) → i < 4 → get_or (word_bytes x) i 0 < 256
+pub word_bytes_lem : (x i : ℕ) → i < 4 → get_or (word_bytes x) i 0 < 256
 unfolding word_bytes
-word-bytes x zero h = omega arith
-word-bytes x (suc zero) h = omega arith
-word-bytes x (suc (suc zero)) h = omega arith
-word-bytes x (suc (suc (suc zero))) h = omega arith
-word-bytes x (suc (suc (suc (suc i)))) h = absurd (omega arith)
+word_bytes_lem x zero h = omega arith
+word_bytes_lem x (suc zero) h = omega arith
+word_bytes_lem x (suc (suc zero)) h = omega arith
+word_bytes_lem x (suc (suc (suc zero))) h = omega arith
+word_bytes_lem x (suc (suc (suc (suc i)))) h = absurd (omega arith)
 
 -- stored byte after byte
 module _ (b : List ℕ) (at x : ℕ) (room : at + 4 ≤ length b) where
@@ -43,16 +43,16 @@ module _ (b : List ℕ) (at x : ℕ) (room : at + 4 ≤ length b) where
       → set now (at + i) (get_or (word_bytes x) i 0) ≡ written b at (take (i + 1) (word_bytes x))
   next i h e =
       ap (λ (l : List ℕ). set l (at + i) (get_or (word_bytes x) i 0)) e
-      ∙ written_next b at (word_bytes x) i (omega (arith, word-long x)) (omega (arith, word-long x))
+      ∙ written_next b at (word_bytes x) i (omega (arith, word_long x)) (omega (arith, word_long x))
 
-  pub word-stored :
+  pub word_stored :
       set
       (set (set (set b at (get_or (word_bytes x) 0 0)) (at + 1) (get_or (word_bytes x) 1 0)) (at + 2) (get_or (word_bytes x) 2 0))
       (at + 3)
       (get_or (word_bytes x) 3 0)
       ≡ written b at (word_bytes x)
   unfolding word_bytes
-  word-stored =
+  word_stored =
       next 3 (omega arith)
       (next 2 (omega arith)
       (next 1 (omega arith)

@@ -12,8 +12,8 @@ use Rattle.text.specs.Written.{written}
 pub written_none : (b : List ℕ) (at : ℕ) → written b at [] ≡ b
 written_none b at = rw add-zero (take-append-drop at b)
 
-pub written-length : (b : List ℕ) (at : ℕ) (x : List ℕ) → at + length x ≤ length b → length (written b at x) ≡ length b
-written-length b at x room =
+pub written_length : (b : List ℕ) (at : ℕ) (x : List ℕ) → at + length x ≤ length b → length (written b at x) ≡ length b
+written_length b at x room =
     simp (length-append, length-drop) (omega (arith, length-take-le at b (omega arith)))
 
 -- one text after another is the two joined
@@ -42,21 +42,21 @@ pub ends :
     → Ends b₀ at x b r
 ends b₀ at x e room = record { place = e.0; bytes = e.1; room = room }
 
-pub ends-length : {b₀ x b : List ℕ} {at r : ℕ} → Ends b₀ at x b r → length b ≡ length b₀
-ends-length {b₀} {x} {b} {at} {r} e = ap length e.bytes ∙ written-length b₀ at x (omega arith)
+pub ends_length : {b₀ x b : List ℕ} {at r : ℕ} → Ends b₀ at x b r → length b ≡ length b₀
+ends_length {b₀} {x} {b} {at} {r} e = ap length e.bytes ∙ written_length b₀ at x (omega arith)
 
 -- an equal text
 pub ends_as : {b₀ x y b : List ℕ} {at r : ℕ} → x ≡ y → Ends b₀ at x b r → Ends b₀ at y b r
 ends_as {b₀} {b = b} {at = at} {r = r} same e = subst (λ (l : List ℕ). Ends b₀ at l b r) same e
 
 -- nothing was written
-pub ends-at-once : (b : List ℕ) (at : ℕ) → at ≤ length b → Ends b at [] b at
-ends-at-once b at room = record { place = sym (add-zero at); bytes = sym (written_none b at); room = room }
+pub ends_at_once : (b : List ℕ) (at : ℕ) → at ≤ length b → Ends b at [] b at
+ends_at_once b at room = record { place = sym (add-zero at); bytes = sym (written_none b at); room = room }
 
 -- one writer after another
 pub followed : {b₀ x b y b' : List ℕ} {at r r' : ℕ} → Ends b₀ at x b r → Ends b r y b' r' → Ends b₀ at (x ++ y) b' r'
 followed {b₀} {x} {b} {y} {b'} {at} {r} {r'} first second =
-    let same : length b ≡ length b₀ = ends-length first in
+    let same : length b ≡ length b₀ = ends_length first in
     let place : r' ≡ at + length x + length y = omega arith in
     record {
       place = omega (arith, length-append x y);
@@ -84,7 +84,7 @@ written_next b at text i room more =
     let x = take i text in
     let v = get_or text i 0 in
     let long : length x ≡ i = length-take-le i text (omega arith) in
-    stored (written b at x) (at + i) v (omega (arith, written-length b at x (omega arith)))
+    stored (written b at x) (at + i) v (omega (arith, written_length b at x (omega arith)))
     ∙ ap (λ (n : ℕ). written (written b at x) (at + n) (v ∷ [])) (sym long)
     ∙ written_twice b at x (v ∷ []) (omega arith)
     ∙ ap (written b at) (sym (take-suc text i 0 more) ∙ ap (λ (n : ℕ). take n text) (sym (add-one i)))

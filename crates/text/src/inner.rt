@@ -1,7 +1,7 @@
 // Writers of text behind a check of the room already made.
 ghost use Rattle.std.specs.Prelude.{◌≡◌, ◌+◌, ◌≤◌, ◌<◌, length};
 ghost use Rattle.text.specs.Written.{written};
-ghost use Rattle.text.specs.Decimal.{decimalOf, digitsOf};
+ghost use Rattle.text.specs.Decimal.{decimal_of, digits_of};
 
 mod word;
 
@@ -23,7 +23,7 @@ pub fn put_text(buf: &mut [u8], at: usize, text: &[u8]) -> usize
 
 // How many decimal digits a number has.
 fn digit_count(x: u64) -> usize
-    ensures { result ≡ length (decimalOf x) }
+    ensures { result ≡ length (decimal_of x) }
 {
     let mut rest = x;
     let mut count: usize = 1;
@@ -37,7 +37,7 @@ fn digit_count(x: u64) -> usize
 // Writes the last `count` decimal digits of a number, from the place `at` on.
 fn put_digits(buf: &mut [u8], at: usize, count: usize, x: u64)
     requires { at + count ≤ length buf.old }
-    ensures { buf.new ≡ written buf.old at (digitsOf count x) }
+    ensures { buf.new ≡ written buf.old at (digits_of count x) }
 {
     let mut rest = x;
     let mut left = count;
@@ -51,8 +51,8 @@ fn put_digits(buf: &mut [u8], at: usize, count: usize, x: u64)
 // Writes a number in decimal from the place `at` on, and answers the place after it.
 pub fn put_decimal(buf: &mut [u8], at: usize, x: u64) -> usize
     requires { at + 20 ≤ length buf.old }
-    ensures value { result ≡ at + length (decimalOf x) }
-    ensures buf_after { buf.new ≡ written buf.old at (decimalOf x) }
+    ensures value { result ≡ at + length (decimal_of x) }
+    ensures buf_after { buf.new ≡ written buf.old at (decimal_of x) }
 {
     let count = digit_count(x);
     put_digits(buf, at, count, x);

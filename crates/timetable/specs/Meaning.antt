@@ -1,10 +1,10 @@
 -- What a written timetable is, whatever result the promise of `write` allows. Each statement is proved in proofs/, under its name.
 use Rattle.std.specs.Prelude.{ℕ, ◌+◌, ◌≤◌, ◌<◌, ◌≡◌, ◌↔◌, List, [], length, take, drop}
 use Rattle.job.specs.declared.refusal.Checked.TheVariants.{Passed}
-use Rattle.job.specs.Told.{row, toldChecked}
+use Rattle.job.specs.Told.{row, told_checked}
 use Rattle.run.specs.declared.state.State.{State}
 use Rattle.run.specs.declared.answer.Slot.{Slot}
-use Rattle.run.specs.State.{clockMost}
+use Rattle.run.specs.State.{clock_most}
 use Rattle.run.specs.Sound.{SoundState}
 use Rattle.run.specs.Calls.{Steps, bytes_of}
 use Rattle.timetable.specs.declared.writer.Written.{Written}
@@ -14,7 +14,7 @@ use Rattle.timetable.specs.Promise.{WritePromise}
 pub record Room (s : State) (len offset n : ℕ) : Type 0 where
   pub sound : SoundState s
   pub fits : offset + n ≤ len
-  pub clock : s.clock + n ≤ clockMost
+  pub clock : s.clock + n ≤ clock_most
 
 -- 'other bytes stay'
 pub record Stays (before after : List ℕ) (offset n : ℕ) : Type 0 where
@@ -32,10 +32,10 @@ pub record WritesSteps (s : State) (before : List ℕ) (offset n : ℕ) (next : 
 
 -- 'Tests: 10, 12 (offset + n above the length), 11 (clock + n above its limit).'
 pub record WriteTold (s : State) (before : List ℕ) (offset n : ℕ) (r : Written) (after : List ℕ) : Type 0 where
-  pub row-ten : (toldChecked r.answer ≡ row 10 []) ↔ (SoundState s → ⊥)
-  pub row-twelve : (toldChecked r.answer ≡ row 12 []) ↔ (SoundState s × (length before < offset + n))
-  pub row-eleven :
-      (toldChecked r.answer ≡ row 11 []) ↔ (SoundState s × (offset + n ≤ length before) × (clockMost < s.clock + n))
+  pub row_ten : (told_checked r.answer ≡ row 10 []) ↔ (SoundState s → ⊥)
+  pub row_twelve : (told_checked r.answer ≡ row 12 []) ↔ (SoundState s × (length before < offset + n))
+  pub row_eleven :
+      (told_checked r.answer ≡ row 11 []) ↔ (SoundState s × (offset + n ≤ length before) × (clock_most < s.clock + n))
   pub passes : (r.answer ≡ Passed) ↔ Room s (length before) offset n
   pub writes : r.answer ≡ Passed → WritesSteps s before offset n r.state after
   -- 'A refused .. timetable writes nothing; a state handed in comes back equal.'

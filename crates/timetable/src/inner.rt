@@ -1,11 +1,11 @@
 // The writer's loop, behind the checks already made.
 ghost use Rattle.std.specs.Prelude.{◌≡◌, ◌+◌, ◌≤◌, length};
-ghost use Rattle.place.specs.Choice.{noPlace};
-ghost use Rattle.run.specs.State.{clockMost};
+ghost use Rattle.place.specs.Choice.{no_place};
+ghost use Rattle.run.specs.State.{clock_most};
 ghost use Rattle.run.specs.Sound.{SoundState};
 ghost use Rattle.run.specs.Slot.{choice_of};
 ghost use Rattle.run.specs.Answer.{byte_of};
-ghost use Rattle.run.specs.Run.{afterSlots, choicesOf};
+ghost use Rattle.run.specs.Run.{after_slots, choices_of};
 
 use place::inner::choice::{Held, better, nobody};
 use place::inner::service::moved;
@@ -15,7 +15,7 @@ use run::inner::slot::counted;
 
 // 'one byte each, 0 to 15 or 255 for idle'
 fn byte_of(chosen: usize) -> u8
-    requires { chosen ≤ noPlace }
+    requires { chosen ≤ no_place }
     ensures { result ≡ byte_of (choice_of chosen) }
 {
     if chosen == Held::NO_PLACE {
@@ -30,9 +30,9 @@ fn byte_of(chosen: usize) -> u8
 // those moved. The places stand in one local array, so that no state is copied in the loop.
 pub(crate) fn fill(state: State, buf: &mut [u8]) -> State
     requires sound_state { SoundState state }
-    requires buf_bound { state.clock + length buf.old ≤ clockMost }
-    ensures value { result ≡ afterSlots state (length buf.old) }
-    ensures buf_after { buf.new ≡ choicesOf state (length buf.old) }
+    requires buf_bound { state.clock + length buf.old ≤ clock_most }
+    ensures value { result ≡ after_slots state (length buf.old) }
+    ensures buf_after { buf.new ≡ choices_of state (length buf.old) }
 {
     let setting = state.setting;
     let count = state.count;

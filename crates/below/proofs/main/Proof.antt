@@ -4,22 +4,22 @@ use mathlib.Core.List.{List}
 use Prim.Native.Nat.{ℕ, ◌≤◌}
 use native.Mathlib.Omega.{arith}
 use Rattle.job.specs.declared.refusal.Checked.TheVariants.{Passed}
-use Rattle.job.specs.Limit.{countMost}
-use Rattle.job.specs.Told.{passed, toldChecked}
+use Rattle.job.specs.Limit.{count_most}
+use Rattle.job.specs.Told.{passed, told_checked}
 use Rattle.sheet.specs.declared.reading.ReadSheet.{ReadSheet}
 use Rattle.sheet.specs.Promise.{ReadPromise}
-use Rattle.sheet.proofs.Meaning.{reads-exactly}
+use Rattle.sheet.proofs.Meaning.{reads_exactly}
 use borrow.Author.Rules.{rules}
 use Rattle.below.proofs.main.Statement.{statement}
 use Rattle.below.proofs.main.Tie as tie
 
-few-jobs : (bytes : List ℕ) (r : ReadSheet) → ReadPromise bytes r → r.answer ≡ Passed → r.sheet.list.count ≤ countMost
+few-jobs : (bytes : List ℕ) (r : ReadSheet) → ReadPromise bytes r → r.answer ≡ Passed → r.sheet.list.count ≤ count_most
 few-jobs bytes r promise passes =
-    let known = reads-exactly bytes r promise in
-    let told : toldChecked r.answer ≡ passed = ap toldChecked passes in
+    let known = reads_exactly bytes r promise in
+    let told : told_checked r.answer ≡ passed = ap told_checked passes in
     let listed = known.passing.0 told in
     let back = known.values _ _ _ listed.sheet.is told in
-    omega (arith, back.count-is, listed.fact.1.count)
+    omega (arith, back.count_is, listed.fact.1.count)
 
 slice-aggregate-read-full : tie.Need-slice-aggregate-read-full
 slice-aggregate-read-full c = search rules

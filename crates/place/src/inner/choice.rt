@@ -2,8 +2,8 @@
 // An eligible place is nearer than one that may take a spare slot.
 ghost use Rattle.std.specs.Prelude.{◌≡◌, true, cond};
 ghost use Rattle.place.specs.Sound.{SoundPlace};
-ghost use Rattle.place.specs.Place.{eligibleOf};
-ghost use Rattle.place.specs.Choice.{Small, SmallHeld, held_at, nobody, ratioOf, dueAway, spareAway, nearerOf, betterOf};
+ghost use Rattle.place.specs.Place.{eligible_of};
+ghost use Rattle.place.specs.Choice.{Small, SmallHeld, held_at, nobody, ratio_of, due_away, spare_away, nearer_of, better_of};
 
 use crate::inner::service::{eligible, left, numerator, owed, takes_spare};
 use crate::record::Place;
@@ -45,7 +45,7 @@ pub fn nobody() -> Held
 }
 
 fn ratio(num: u32, den: u32) -> Fraction
-    ensures { result ≡ ratioOf num den }
+    ensures { result ≡ ratio_of num den }
 {
     Fraction {
         num: num as i64,
@@ -56,8 +56,8 @@ fn ratio(num: u32, den: u32) -> Fraction
 // 'Order V: lowest virtual deadline'; 'Order W: soonest window end, k'T − e slots away'.
 fn due_away(setting: Setting, q: Place) -> Fraction
     requires sound_place { SoundPlace setting q }
-    requires q_value { eligibleOf setting q ≡ true }
-    ensures { result ≡ dueAway setting q }
+    requires q_value { eligible_of setting q ≡ true }
+    ensures { result ≡ due_away setting q }
 {
     if setting.order == Setting::V {
         let num = numerator(setting, q);
@@ -70,7 +70,7 @@ fn due_away(setting: Setting, q: Place) -> Fraction
 // 'soonest window end first' (02), and farther than any deadline, which is at most a window away.
 fn spare_away(setting: Setting, q: Place) -> Fraction
     requires { SoundPlace setting q }
-    ensures { result ≡ spareAway q }
+    ensures { result ≡ spare_away q }
 {
     ratio(Fraction::WINDOW_MOST + left(setting, q), 1)
 }
@@ -78,7 +78,7 @@ fn spare_away(setting: Setting, q: Place) -> Fraction
 // 'two are compared exactly as fractions'
 fn nearer(a: Fraction, b: Fraction) -> bool
     requires { Small a × Small b }
-    ensures { result ≡ nearerOf a b }
+    ensures { result ≡ nearer_of a b }
 {
     let x = a.num;
     let y = b.num;
@@ -90,7 +90,7 @@ fn nearer(a: Fraction, b: Fraction) -> bool
 // The one held, or the place at number `at` where that is nearer.
 fn nearest(best: Held, at: usize, away: Fraction) -> Held
     requires { Small away × SmallHeld best }
-    ensures { result ≡ cond (nearerOf away best.away) (held_at at away) best }
+    ensures { result ≡ cond (nearer_of away best.away) (held_at at away) best }
 {
     if nearer(away, best.away) {
         return Held { at, away };
@@ -101,7 +101,7 @@ fn nearest(best: Held, at: usize, away: Fraction) -> Held
 // The one held after the place at number `at`.
 pub fn better(setting: Setting, best: Held, at: usize, q: Place) -> Held
     requires { SoundPlace setting q × SmallHeld best }
-    ensures { result ≡ betterOf setting best at q }
+    ensures { result ≡ better_of setting best at q }
 {
     if eligible(setting, q) {
         return nearest(best, at, due_away(setting, q));

@@ -1,6 +1,6 @@
 // Row 10 for one place: whether a place of any content is in its ranges.
 ghost use Rattle.std.specs.Prelude.{◌≡◌, ◌*◌, leb};
-ghost use Rattle.place.specs.Range.{jobPasses, withinM, unitsInRange, instancesInRange, serviceInRange, progressInRange, placeBlank, placeInRange};
+ghost use Rattle.place.specs.Range.{job_passes, within_m, units_in_range, instances_in_range, service_in_range, progress_in_range, place_blank, place_in_range};
 
 use crate::inner::service::by_units;
 use crate::record::Place;
@@ -9,7 +9,7 @@ use job::{Checked, Job};
 
 // 'its jobs pass 1 to 6'
 fn job_passes(job: Job) -> bool
-    ensures { result ≡ jobPasses job }
+    ensures { result ≡ job_passes job }
 {
     let checked = job.check(0);
     match checked {
@@ -27,21 +27,21 @@ fn at_most(u: u32, n: u32, c: u32) -> bool
 
 // 'u ≤ .. mC', 's ≤ m', with spare off: an unused counter is 0, and so within m too.
 fn within_m(setting: Setting, q: Place) -> bool
-    ensures { result ≡ withinM setting q }
+    ensures { result ≡ within_m setting q }
 {
     setting.spare | (at_most(q.at.u, q.job.m, q.job.c) & (q.at.s <= q.job.m))
 }
 
 // 'u ≤ .. pC (relaxed)', 'unused counters are 0'
 fn units_in_range(q: Place) -> bool
-    ensures { result ≡ unitsInRange q }
+    ensures { result ≡ units_in_range q }
 {
     at_most(q.at.u, q.at.p, q.job.c) & (q.at.s == 0) & (q.at.v == 0)
 }
 
 // 'v ≤ C and s ≤ p−1, plus one if v = C, with s ≥ 1 if v = C (original)', 'unused counters are 0'
 fn instances_in_range(q: Place) -> bool
-    ensures { result ≡ instancesInRange q }
+    ensures { result ≡ instances_in_range q }
 {
     if q.at.v == q.job.c {
         return (1 <= q.at.s) & (q.at.s <= q.at.p) & (q.at.u == 0);
@@ -50,7 +50,7 @@ fn instances_in_range(q: Place) -> bool
 }
 
 fn service_in_range(setting: Setting, q: Place) -> bool
-    ensures { result ≡ serviceInRange setting q }
+    ensures { result ≡ service_in_range setting q }
 {
     if by_units(setting) {
         return within_m(setting, q) & units_in_range(q);
@@ -59,13 +59,13 @@ fn service_in_range(setting: Setting, q: Place) -> bool
 }
 
 fn progress_in_range(setting: Setting, q: Place) -> bool
-    ensures { result ≡ progressInRange setting q }
+    ensures { result ≡ progress_in_range setting q }
 {
     (q.at.e < q.job.t) & (1 <= q.at.p) & (q.at.p <= q.job.k) & service_in_range(setting, q)
 }
 
 fn place_blank(q: Place) -> bool
-    ensures { result ≡ placeBlank q }
+    ensures { result ≡ place_blank q }
 {
     let j = q.job;
     let at = q.at;
@@ -82,7 +82,7 @@ fn place_blank(q: Place) -> bool
 }
 
 pub fn place_in_range(setting: Setting, listed: bool, q: Place) -> bool
-    ensures { result ≡ placeInRange setting listed q }
+    ensures { result ≡ place_in_range setting listed q }
 {
     if listed {
         return job_passes(q.job) & progress_in_range(setting, q);

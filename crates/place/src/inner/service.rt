@@ -1,9 +1,9 @@
 // One place over one slot: what it is owed, whether it may be served, and what the slot makes of it.
 ghost use Rattle.std.specs.Prelude.{◌≡◌, true, false, ltb};
 ghost use Rattle.place.specs.Sound.{SoundPlace};
-ghost use Rattle.place.specs.Setting.{byUnits};
-ghost use Rattle.place.specs.Place.{finishedOf, owedOf, windowLeft, left_of, eligibleOf, numeratorOf, overdueOf, finishesOf, tagsOf, firstTagged, servedOf, given_of, taggedOf, turnedOf, short_of, movedOf, passedOf};
-ghost use Rattle.place.specs.Choice.{takesSpare, candidateOf};
+ghost use Rattle.place.specs.Setting.{by_units};
+ghost use Rattle.place.specs.Place.{finished_of, owed_of, window_left, left_of, eligible_of, numerator_of, overdue_of, finishes_of, tags_of, first_tagged, served_of, given_of, tagged_of, turned_of, short_of, moved_of, passed_of};
+ghost use Rattle.place.specs.Choice.{takes_spare, candidate_of};
 
 use crate::record::{Place, Progress};
 use crate::setting::Setting;
@@ -26,7 +26,7 @@ pub struct Passage {
 
 // How service is kept: by units, or by instances.
 pub(crate) fn by_units(setting: Setting) -> bool
-    ensures { result ≡ byUnits setting }
+    ensures { result ≡ by_units setting }
 {
     setting.model == Job::RELAXED
 }
@@ -34,7 +34,7 @@ pub(crate) fn by_units(setting: Setting) -> bool
 // The instances finished in this window.
 fn finished(setting: Setting, q: Place) -> u32
     requires { SoundPlace setting q }
-    ensures { result ≡ finishedOf setting q }
+    ensures { result ≡ finished_of setting q }
 {
     if by_units(setting) {
         return q.at.u / q.job.c;
@@ -45,8 +45,8 @@ fn finished(setting: Setting, q: Place) -> u32
 // m' of an eligible place: it is above 0, so that nothing wraps.
 pub(crate) fn owed(setting: Setting, q: Place) -> u32
     requires sound_place { SoundPlace setting q }
-    requires q_value { eligibleOf setting q ≡ true }
-    ensures { result ≡ owedOf setting q }
+    requires q_value { eligible_of setting q ≡ true }
+    ensures { result ≡ owed_of setting q }
 {
     q.job.m - finished(setting, q)
 }
@@ -54,7 +54,7 @@ pub(crate) fn owed(setting: Setting, q: Place) -> u32
 // k'T, the slots from this period's start to the window's end.
 pub(crate) fn window_left(setting: Setting, q: Place) -> u32
     requires { SoundPlace setting q }
-    ensures { result ≡ windowLeft q }
+    ensures { result ≡ window_left q }
 {
     (q.job.k - q.at.p + 1) * q.job.t
 }
@@ -70,7 +70,7 @@ pub(crate) fn left(setting: Setting, q: Place) -> u32
 // 'u < m times C and u < p times C' is u < (the less of m and p) times C: one product.
 pub(crate) fn eligible(setting: Setting, q: Place) -> bool
     requires { SoundPlace setting q }
-    ensures { result ≡ eligibleOf setting q }
+    ensures { result ≡ eligible_of setting q }
 {
     if by_units(setting) {
         let most = if q.at.p < q.job.m { q.at.p } else { q.job.m };
@@ -82,8 +82,8 @@ pub(crate) fn eligible(setting: Setting, q: Place) -> bool
 // k'T − e m', the numerator over m' of the distance to the virtual deadline.
 pub(crate) fn numerator(setting: Setting, q: Place) -> i64
     requires sound_place { SoundPlace setting q }
-    requires q_value { eligibleOf setting q ≡ true }
-    ensures { result ≡ numeratorOf setting q }
+    requires q_value { eligible_of setting q ≡ true }
+    ensures { result ≡ numerator_of setting q }
 {
     let ahead = window_left(setting, q);
     let gone = q.at.e * owed(setting, q);
@@ -94,8 +94,8 @@ pub(crate) fn numerator(setting: Setting, q: Place) -> i64
 // (02): who has that and is not eligible has its m.
 pub(crate) fn takes_spare(setting: Setting, q: Place) -> bool
     requires sound_place { SoundPlace setting q }
-    requires q_value { eligibleOf setting q ≡ false }
-    ensures { result ≡ takesSpare setting q }
+    requires q_value { eligible_of setting q ≡ false }
+    ensures { result ≡ takes_spare setting q }
 {
     if setting.spare {
         if by_units(setting) {
@@ -109,7 +109,7 @@ pub(crate) fn takes_spare(setting: Setting, q: Place) -> bool
 // Whether m' > 0, without the division that m' may take.
 fn lacks(setting: Setting, q: Place) -> bool
     requires { SoundPlace setting q }
-    ensures { result ≡ ltb 0 (owedOf setting q) }
+    ensures { result ≡ ltb 0 (owed_of setting q) }
 {
     if by_units(setting) {
         return q.at.u < q.job.m * q.job.c;
@@ -121,7 +121,7 @@ fn lacks(setting: Setting, q: Place) -> bool
 // no m' = 0 meets. Where more than m is finished, m' is 0: nothing is subtracted.
 fn overdue(setting: Setting, q: Place) -> bool
     requires { SoundPlace setting q }
-    ensures { result ≡ overdueOf setting q }
+    ensures { result ≡ overdue_of setting q }
 {
     let next = q.at.e + 1;
     window_left(setting, q) + next * finished(setting, q) <= next * q.job.m
@@ -130,7 +130,7 @@ fn overdue(setting: Setting, q: Place) -> bool
 // Whether one more unit finishes an instance: what is begun, u mod C or v, lacks no other.
 fn finishes(setting: Setting, q: Place) -> bool
     requires { SoundPlace setting q }
-    ensures { result ≡ finishesOf setting q }
+    ensures { result ≡ finishes_of setting q }
 {
     let begun = if by_units(setting) {
         q.at.u % q.job.c
@@ -144,7 +144,7 @@ fn finishes(setting: Setting, q: Place) -> bool
 // is that near.
 fn tags(setting: Setting, q: Place, chosen: bool) -> bool
     requires { SoundPlace setting q }
-    ensures { result ≡ tagsOf setting q chosen }
+    ensures { result ≡ tags_of setting q chosen }
 {
     if q.at.p + q.job.m <= q.job.k {
         return false;
@@ -158,7 +158,7 @@ fn tags(setting: Setting, q: Place, chosen: bool) -> bool
 // Whether it does so for the first time in the place's window.
 fn first_tagged(setting: Setting, q: Place, chosen: bool) -> bool
     requires { SoundPlace setting q }
-    ensures { result ≡ firstTagged setting q chosen }
+    ensures { result ≡ first_tagged setting q chosen }
 {
     if q.at.tag {
         return false;
@@ -169,8 +169,8 @@ fn first_tagged(setting: Setting, q: Place, chosen: bool) -> bool
 // One more unit.
 fn served(setting: Setting, q: Place) -> Place
     requires sound_place { SoundPlace setting q }
-    requires q_value { candidateOf setting q ≡ true }
-    ensures { result ≡ servedOf setting q }
+    requires q_value { candidate_of setting q ≡ true }
+    ensures { result ≡ served_of setting q }
 {
     let mut next = q;
     if by_units(setting) {
@@ -190,7 +190,7 @@ fn served(setting: Setting, q: Place) -> Place
 // The service of the slot.
 fn given(setting: Setting, q: Place, chosen: bool) -> Place
     requires sound_place { SoundPlace setting q }
-    requires q_value { chosen ≡ true → candidateOf setting q ≡ true }
+    requires q_value { chosen ≡ true → candidate_of setting q ≡ true }
     ensures { result ≡ given_of setting q chosen }
 {
     if chosen {
@@ -200,7 +200,7 @@ fn given(setting: Setting, q: Place, chosen: bool) -> Place
 }
 
 fn tagged(q: Place, tags: bool) -> Place
-    ensures { result ≡ taggedOf q tags }
+    ensures { result ≡ tagged_of q tags }
 {
     let mut next = q;
     if tags {
@@ -227,7 +227,7 @@ fn is_short(setting: Setting, q: Place) -> bool
 // The slot passes: 'Where e reaches T the period ends; where the k-th period ends, the window ends.'
 fn turned(setting: Setting, q: Place) -> Place
     requires { SoundPlace setting q }
-    ensures { result ≡ turnedOf q }
+    ensures { result ≡ turned_of q }
 {
     let mut next = q;
     let e = q.at.e + 1;
@@ -252,8 +252,8 @@ fn turned(setting: Setting, q: Place) -> Place
 // All that one slot does to one place: its service, then its tag, then the slot passes.
 pub fn moved(setting: Setting, q: Place, chosen: bool) -> Outcome
     requires sound_place { SoundPlace setting q }
-    requires q_value { chosen ≡ true → candidateOf setting q ≡ true }
-    ensures { result ≡ movedOf setting q chosen }
+    requires q_value { chosen ≡ true → candidate_of setting q ≡ true }
+    ensures { result ≡ moved_of setting q chosen }
 {
     let first = first_tagged(setting, q, chosen);
     let worked = tagged(given(setting, q, chosen), first);
@@ -270,8 +270,8 @@ pub fn moved(setting: Setting, q: Place, chosen: bool) -> Outcome
 // on it.
 pub fn passed(setting: Setting, q: Place, chosen: bool) -> Passage
     requires sound_place { SoundPlace setting q }
-    requires q_value { chosen ≡ true → candidateOf setting q ≡ true }
-    ensures { result ≡ passedOf setting q chosen }
+    requires q_value { chosen ≡ true → candidate_of setting q ≡ true }
+    ensures { result ≡ passed_of setting q chosen }
 {
     let worked = given(setting, q, chosen);
     let short = is_short(setting, worked);

@@ -1,9 +1,9 @@
 // One slot of a sound state below the clock's limit.
 ghost use Rattle.std.specs.Prelude.{◌≡◌, cond, ◌+◌, ◌^◌, ◌<◌};
-ghost use Rattle.run.specs.State.{clockMost};
+ghost use Rattle.run.specs.State.{clock_most};
 ghost use Rattle.run.specs.Sound.{SoundState};
 ghost use Rattle.run.specs.Choice.{chosen_of};
-ghost use Rattle.run.specs.Slot.{choice_of, allMoved, countedOf, turn_of};
+ghost use Rattle.run.specs.Slot.{choice_of, all_moved, counted_of, turn_of};
 
 use crate::answer::{Choice, Slot};
 use crate::inner::choice::choose;
@@ -49,10 +49,10 @@ fn choice_of(at: usize) -> Choice
 
 // The totals after one more slot, whose sets have `tagged` and `short` jobs.
 pub fn counted(totals: Totals, idle: bool, tagged: u32, short: u32) -> Totals
-    requires idle_bound { totals.given + totals.idle < clockMost }
+    requires idle_bound { totals.given + totals.idle < clock_most }
     requires tagged_bound { totals.tags + tagged < 2 ^ 64 }
     requires short_bound { totals.shorts + short < 2 ^ 64 }
-    ensures { result ≡ countedOf totals idle tagged short }
+    ensures { result ≡ counted_of totals idle tagged short }
 {
     Totals {
         given: plus_if(!idle, totals.given, 1),
@@ -66,7 +66,7 @@ pub fn counted(totals: Totals, idle: bool, tagged: u32, short: u32) -> Totals
 fn all_moved(state: State, at: usize) -> Outcomes
     requires sound_state { SoundState state }
     requires at_value { at ≡ chosen_of state }
-    ensures { result ≡ allMoved state.setting state.places state.count at }
+    ensures { result ≡ all_moved state.setting state.places state.count at }
 {
     let places = state.places;
     let mut all = Outcomes {
@@ -94,7 +94,7 @@ fn all_moved(state: State, at: usize) -> Outcomes
 
 pub(crate) fn turn(state: State) -> Turned
     requires sound_state { SoundState state }
-    requires clock_lt_clock_most { state.clock < clockMost }
+    requires clock_lt_clock_most { state.clock < clock_most }
     ensures { result ≡ turn_of state }
 {
     let at = choose(state);

@@ -5,7 +5,7 @@ use native.Mathlib.Nat.{mod-lt}
 use native.Mathlib.Omega.{arith}
 use borrow.Author.Rules.{rules}
 use Rattle.admission.specs.Divisor.{GreatestDivisor}
-use Rattle.admission.proofs.DivisorLaws.{divisor-ends, divisor-step}
+use Rattle.admission.proofs.DivisorLaws.{divisor_ends, divisor_step}
 use Rattle.admission.proofs.divisor.common_divisor.Statement.{statement}
 use Rattle.admission.proofs.divisor.common_divisor.Tie as tie
 
@@ -25,12 +25,12 @@ loop-less : tie.Need-loop-smaller invariant-loop decreases-loop
 loop-less c = mod-lt c.before.loop.x (omega arith)
 
 loop-again : tie.Need-loop-preserved invariant-loop decreases-loop
-loop-again c = λ d s. c.before.loop.invariant d (divisor-step s)
+loop-again c = λ d s. c.before.loop.invariant d (divisor_step s)
 
 returns : tie.Need-returns invariant-loop decreases-loop
 returns c =
     let ended : c.before.loop.y ≡ 0 = omega arith in
-    c.before.loop.invariant c.before.loop.x (rw ended (divisor-ends c.before.loop.x))
+    c.before.loop.invariant c.before.loop.x (rw ended (divisor_ends c.before.loop.x))
 
 pub common-divisor-spec : {M : Type 1} → statement M
 common-divisor-spec =

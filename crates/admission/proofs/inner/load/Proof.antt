@@ -3,19 +3,19 @@ use mathlib.Core.Path.{◌≡◌, sym}
 use Prim.Native.Nat.{◌+◌, ◌-◌, ◌≤◌}
 use native.Mathlib.Omega.{arith}
 use borrow.Author.Rules.{rules}
-use Rattle.admission.specs.Load.{loadUpto}
-use Rattle.admission.proofs.LoadLaws.{load-none, load-more, load_fits}
+use Rattle.admission.specs.Load.{load_upto}
+use Rattle.admission.proofs.LoadLaws.{load_none, load_more, load_fits}
 use Rattle.admission.proofs.inner.load.Statement.{statement}
 use Rattle.admission.proofs.inner.load.Tie as tie
 
 abbrev invariant-loop : tie.invariant-loop
-invariant-loop cycle list count sum₀ at₀ sum at = (at ≤ list.count) × (sum ≡ loadUpto list.jobs cycle at)
+invariant-loop cycle list count sum₀ at₀ sum at = (at ≤ list.count) × (sum ≡ load_upto list.jobs cycle at)
 
 abbrev decreases-loop : tie.decreases-loop
 decreases-loop cycle list count sum₀ at₀ sum at = list.count - at
 
 loop-holds : tie.Need-loop-init invariant-loop decreases-loop
-loop-holds c = (omega arith, sym (load-none c.args.t1.jobs c.args.cycle))
+loop-holds c = (omega arith, sym (load_none c.args.t1.jobs c.args.cycle))
 
 mul-job : tie.Need-overflow-mul-job invariant-loop decreases-loop
 mul-job c = search rules
@@ -32,10 +32,10 @@ share-requires c κs =
 next :
     (c : tie.After-share invariant-loop decreases-loop)
     → let head = c.before.before.before in
-    head.loop.sum + c.share.result ≡ loadUpto head.before.args.t1.jobs head.before.args.cycle (head.loop.at + 1)
+    head.loop.sum + c.share.result ≡ load_upto head.before.args.t1.jobs head.before.args.cycle (head.loop.at + 1)
 next c =
     let head = c.before.before.before in
-    cc (load-more head.before.args.t1.jobs head.before.args.cycle head.loop.at)
+    cc (load_more head.before.args.t1.jobs head.before.args.cycle head.loop.at)
 
 add-sum : tie.Need-overflow-add-sum invariant-loop decreases-loop
 add-sum c =

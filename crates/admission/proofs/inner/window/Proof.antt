@@ -1,7 +1,7 @@
 -- `window` meets its contract: the product of two sound numbers does not wrap. Assumes nothing.
 use native.Mathlib.Omega.{arith}
 use borrow.Author.Rules.{rules}
-use Rattle.admission.proofs.CycleLaws.{window-most}
+use Rattle.admission.proofs.CycleLaws.{window_most_lem}
 use Rattle.admission.proofs.inner.window.Statement.{statement}
 use Rattle.admission.proofs.inner.window.Tie as tie
 
@@ -12,7 +12,7 @@ cast-result-2 : tie.Need-overflow-cast-result-2
 cast-result-2 c = search rules
 
 mul-result : tie.Need-overflow-mul-result
-mul-result c = record { fits = omega (arith, window-most c.before.before.requires) }
+mul-result c = record { fits = omega (arith, window_most_lem c.before.before.requires) }
 
 returns : tie.Need-returns
 returns c = search rules

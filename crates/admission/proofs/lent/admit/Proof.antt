@@ -40,9 +40,9 @@ use denote.Exit.{yes}
 use Rattle.job.specs.declared.record.Job.{Job}
 use Rattle.job.specs.declared.list.JobList.{JobList}
 use Rattle.admission.specs.declared.answer.Admission.{Admission}
-use Rattle.admission.specs.Answer.{toldAdmission}
-use Rattle.admission.specs.Verdict.{verdictTold}
-use Rattle.admission.specs.Lent.{list_of, admitOf}
+use Rattle.admission.specs.Answer.{told_admission}
+use Rattle.admission.specs.Verdict.{verdict_told}
+use Rattle.admission.specs.Lent.{list_of, admit_of}
 use Rattle.job.specs.contracts.record.Job as J
 use Rattle.job.specs.contracts.list.JobList as L
 use Rattle.job.proofs.list.JobList.TheLaws as L'
@@ -100,8 +100,8 @@ module _ {M : Type 1} {𝓤 : Ura M} (𝓛 : Logic 𝓤) (mem : Memory → SProp
   gather-says : (r : JobList) → ent 𝓤 (ensured 𝓛 gather.ended (gather.clauses 𝓛 mem run) (κ, tt) (x, tt) tt r) (fact 𝓤 (r ≡ list_of x.now))
   gather-says r = ex_e 𝓤 _ (λ ws. snd∗ 𝓤 (sem 𝓛 (lasts gather.ended (κ, tt) (x, tt) ws)) (fact 𝓤 (r ≡ list_of x.now)))
 
-  verdict-says : (l : JobList) (r : Admission) → ent 𝓤 (ensured 𝓛 verdict.ended (verdict.clauses 𝓛 mem run) tt (l, (m, tt)) tt r) (fact 𝓤 (toldAdmission r ≡ verdictTold l m))
-  verdict-says l r = ex_e 𝓤 _ (λ ws. snd∗ 𝓤 (sem 𝓛 (lasts verdict.ended tt (l, (m, tt)) ws)) (fact 𝓤 (toldAdmission r ≡ verdictTold l m)))
+  verdict-says : (l : JobList) (r : Admission) → ent 𝓤 (ensured 𝓛 verdict.ended (verdict.clauses 𝓛 mem run) tt (l, (m, tt)) tt r) (fact 𝓤 (told_admission r ≡ verdict_told l m))
+  verdict-says l r = ex_e 𝓤 _ (λ ws. snd∗ 𝓤 (sem 𝓛 (lasts verdict.ended tt (l, (m, tt)) ws)) (fact 𝓤 (told_admission r ≡ verdict_told l m)))
 
   module _ (gm : m < 2 ^ 32) where
     -- what `gather` asks, and what is kept
@@ -121,7 +121,7 @@ module _ {M : Type 1} {𝓤 : Ura M} (𝓛 : Logic 𝓤) (mem : Memory → SProp
         qed 𝓛 [] ∵ nothing ! $ owned ! u32 (Is u32) (uint_Makes 𝓛 w32) m _ (refl, gm) $ fjoin ! $
         owned ! L.the_row (Is L.the_row) (LL.makes L.the_type L'.the_plain 𝓛) l _ is $ fjoin ! $ nothing ! $ join ! $ frame ! $ done !
 
-    exits : (r : Admission) (u : Val) → toldAdmission r ≡ admitOf x.now m → ent 𝓤 (⋆ 𝓛 (‵ ((R.the_row).own_val r (u ∷ [])) ∷ (‵ (flft κ q) ⊛ ‵ ftrue) ∷ ‵ Own ∷ [])) (Post u)
+    exits : (r : Admission) (u : Val) → told_admission r ≡ admit_of x.now m → ent 𝓤 (⋆ 𝓛 (‵ ((R.the_row).own_val r (u ∷ [])) ∷ (‵ (flft κ q) ⊛ ‵ ftrue) ∷ ‵ Own ∷ [])) (Post u)
     exits r u e =
         qed 𝓛 (‵ ((R.the_row).own_val r (u ∷ [])) ∷ (‵ (flft κ q) ⊛ ‵ ftrue) ∷ ‵ Own ∷ []) ∵
         suffices ! _ (ends_at 𝓛 admit.ended stayed (admit.clauses 𝓛 mem run) bound u r (tt, (tt, tt)) (tt, (tt, tt))) $ says ! e $
@@ -145,14 +145,14 @@ module _ {M : Type 1} {𝓤 : Ura M} (𝓛 : Logic 𝓤) (mem : Memory → SProp
           use0 𝓛 (raw ((Verdict 𝓛 mem run).pre (to-verdict r u))) (asks-verdict r u is) $
           calls_at ! fm (Verdict 𝓛 mem run) known-verdict (to-verdict r u) (and_then ! (load ! (from ! (stop !)) (look ! 3 refl)) (and_then ! (load ! (from ! (stop !)) (look ! 5 refl)) (no_more !))) (λ u'.
           use1 𝓛 (later (some (λ (r' : Admission). (‵ ftrue ⊛ ‵ ((R.the_row).own_val r' (u' ∷ []))) ⊛ raw (ensured 𝓛 verdict.ended (verdict.clauses 𝓛 mem run) tt (r, (m, tt)) tt r')))) (id⊢ 𝓤 _) $ await ! tt $ pick ! (λ r'.
-          split ! $ move ! (1 ∷ []) $ use1 𝓛 (raw (fact 𝓤 (toldAdmission r' ≡ verdictTold r m))) (verdict-says r r') $
-          heard ! (toldAdmission r' ≡ verdictTold r m) (λ e₂. split ! $ drop ! $
+          split ! $ move ! (1 ∷ []) $ use1 𝓛 (raw (fact 𝓤 (told_admission r' ≡ verdict_told r m))) (verdict-says r r') $
+          heard ! (told_admission r' ≡ verdict_told r m) (λ e₂. split ! $ drop ! $
           peeks ! R.the_row (Is R.the_row) (shows 𝓛 R.the_row) r' (u' ∷ []) (λ is'.
           -- [the result; the token; what the slice owns; _3; …; _2; …; _1; …; room for _0; …]
           land ! (from ! (stop !)) (init ! 9 refl ((EL.lawful R.the_type R'.the_laws 𝓛 tt).typed r' _ is').0) $
           returns ! (look ! 9 refl) $ forget ! 3 refl $ forget ! 5 refl $ forget ! 7 refl $ forget ! 9 refl $
           move ! (9 ∷ 10 ∷ []) $ free1 ! $ move ! (7 ∷ 8 ∷ []) $ free1 ! $ move ! (5 ∷ 6 ∷ []) $ free1 ! $ move ! (3 ∷ 4 ∷ []) $ free1 ! $ free0 ! $
-          by ! (exits r' u' (e₂ ∙ ap (λ (l : JobList). verdictTold l m) e₁))))))))))))))
+          by ! (exits r' u' (e₂ ∙ ap (λ (l : JobList). verdict_told l m) e₁))))))))))))))
 
 module _ {M : Type 1} {𝓤 : Ura M} (𝓛 : Logic 𝓤) (mem : Memory → SProp 𝓤) (run : Routine → Fun 𝓤) (𝓣 : Tables 𝓤 𝓛.H)
     (known-gather : Triple 𝓤 (𝓣.C #gather) (Gather 𝓛 mem run)) (known-verdict : Triple 𝓤 (𝓣.C #verdict) (Verdict 𝓛 mem run)) where

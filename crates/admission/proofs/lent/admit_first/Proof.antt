@@ -7,7 +7,7 @@ use lib.ListN.{length, take}
 use lib.Seq.{take_all}
 use borrow.Author.Rules.{rules}
 use Rattle.job.specs.declared.record.Job.{Job}
-use Rattle.admission.specs.Lent.{admitOf}
+use Rattle.admission.specs.Lent.{admit_of}
 use Rattle.admission.proofs.lent.admit_first.Statement.{statement}
 use Rattle.admission.proofs.lent.admit_first.Tie as tie
 
@@ -22,7 +22,7 @@ returns c =
     let args = c.before.before.args in
     let long : length args.jobs ≡ 40 = c.before.before.well-formed.0.1.0.1 in
     c.lend-first.ensures
-    ∙ ap (λ (xs : List Job). admitOf xs args.model) (all-of-forty args.jobs args.n long c.before.if1.true)
+    ∙ ap (λ (xs : List Job). admit_of xs args.model) (all-of-forty args.jobs args.n long c.before.if1.true)
 
 lend-first-requires-2 : tie.Need-lend-first-requires-2
 lend-first-requires-2 c κs = search rules

@@ -46,11 +46,11 @@ use denote.Triple.Walked.{says, Stays, stay_none_slice, walk_of, Goes-none_slice
 use denote.Exit.{yes}
 use Rattle.job.specs.declared.record.Job.{Job}
 use Rattle.job.specs.declared.list.JobList.{JobList}
-use Rattle.job.specs.Limit.{countMost}
-use Rattle.job.specs.Check.{noJob, jobAt}
-use Rattle.job.specs.Filled.{emptyList}
-use Rattle.admission.specs.Lent.{putJob, list_of}
-use Rattle.admission.proofs.LentLaws.{gatherUpto, gather_none, gather-more, goesOn, goes_on, ends, Fewer, fewer-ends}
+use Rattle.job.specs.Limit.{count_most}
+use Rattle.job.specs.Check.{no_job, job_at}
+use Rattle.job.specs.Filled.{empty_list}
+use Rattle.admission.specs.Lent.{put_job, list_of}
+use Rattle.admission.proofs.LentLaws.{gather_upto, gather_none, gather_more, goes_on, goes_on_lem, ends, Fewer, fewer_ends}
 use Rattle.job.specs.contracts.record.Job as J
 use Rattle.job.proofs.record.Job.TheLaws as J'
 use Rattle.job.specs.contracts.list.JobList as L
@@ -101,11 +101,11 @@ module _ {M : Type 1} {𝓤 : Ura M} (𝓛 : Logic 𝓤) (mem : Memory → SProp
   Put = triple_of 𝓛 put.signature (put.spec 𝓛 mem run)
 
   -- of each callee's `ensured`, the clause alone: neither has a `&mut`, so what is said of last values is dropped
-  empty-says : (n : ℕ) (r : JobList) → ent 𝓤 (ensured 𝓛 empty.ended (empty.clauses 𝓛 mem run) tt (n, tt) tt r) (fact 𝓤 (r ≡ emptyList n))
-  empty-says n r = ex_e 𝓤 _ (λ ws. snd∗ 𝓤 (sem 𝓛 (lasts empty.ended tt (n, tt) ws)) (fact 𝓤 (r ≡ emptyList n)))
+  empty-says : (n : ℕ) (r : JobList) → ent 𝓤 (ensured 𝓛 empty.ended (empty.clauses 𝓛 mem run) tt (n, tt) tt r) (fact 𝓤 (r ≡ empty_list n))
+  empty-says n r = ex_e 𝓤 _ (λ ws. snd∗ 𝓤 (sem 𝓛 (lasts empty.ended tt (n, tt) ws)) (fact 𝓤 (r ≡ empty_list n)))
 
-  put-says : (l : JobList) (i : ℕ) (j : Job) (r : JobList) → ent 𝓤 (ensured 𝓛 put.ended (put.clauses 𝓛 mem run) tt (l, (i, (j, tt))) tt r) (fact 𝓤 (r ≡ putJob l i j))
-  put-says l i j r = ex_e 𝓤 _ (λ ws. snd∗ 𝓤 (sem 𝓛 (lasts put.ended tt (l, (i, (j, tt))) ws)) (fact 𝓤 (r ≡ putJob l i j)))
+  put-says : (l : JobList) (i : ℕ) (j : Job) (r : JobList) → ent 𝓤 (ensured 𝓛 put.ended (put.clauses 𝓛 mem run) tt (l, (i, (j, tt))) tt r) (fact 𝓤 (r ≡ put_job l i j))
+  put-says l i j r = ex_e 𝓤 _ (λ ws. snd∗ 𝓤 (sem 𝓛 (lasts put.ended tt (l, (i, (j, tt))) ws)) (fact 𝓤 (r ≡ put_job l i j)))
 
   abbrev to-empty : ℕ → Empty.Ghost
   to-empty n = ((tt, tt, tt, (n, tt), (vint w64 n ∷ [], tt)), tt)
@@ -124,7 +124,7 @@ module _ {M : Type 1} {𝓤 : Ura M} (𝓛 : Logic 𝓤) (mem : Memory → SProp
     asks-empty : (n : ℕ) → n < 2 ^ 64 → ent 𝓤 (emp 𝓤) (Empty.pre (to-empty n))
     asks-empty n g = qed 𝓛 [] ∵ nothing ! $ owned ! usize (Is usize) (uint_Makes 𝓛 w64) n _ (refl, g) $ fjoin ! $ nothing ! $ join ! $ frame ! $ done !
 
-    asks-put : (l : JobList) (i : ℕ) (j : Job) → IsL l (lval l) → i < 2 ^ 64 → IsJ j (jval j) → i < countMost → ent 𝓤 (emp 𝓤) (Put.pre (to-put l i j))
+    asks-put : (l : JobList) (i : ℕ) (j : Job) → IsL l (lval l) → i < 2 ^ 64 → IsJ j (jval j) → i < count_most → ent 𝓤 (emp 𝓤) (Put.pre (to-put l i j))
     asks-put l i j is-l g is-j small =
         qed 𝓛 [] ∵ says ! small $ nothing ! $ owned ! J.the_row (Is J.the_row) makes-j j _ is-j $ fjoin ! $
         owned ! usize (Is usize) (uint_Makes 𝓛 w64) i _ (refl, g) $ fjoin ! $
@@ -147,7 +147,7 @@ module _ {M : Type 1} {𝓤 : Ura M} (𝓛 : Logic 𝓤) (mem : Memory → SProp
 
   -- the first i jobs in the array
   abbrev upto : ℕ → JobList
-  upto i = gatherUpto ys i
+  upto i = gather_upto ys i
 
   -- what the slice owns: its last value, and the fractured borrow of its elements
   abbrev Last : Fml
@@ -184,7 +184,7 @@ module _ {M : Type 1} {𝓤 : Ura M} (𝓛 : Logic 𝓤) (mem : Memory → SProp
 
       -- what holds at the head of turn i
       abbrev Facts : ℕ → Type 0
-      Facts i = (i ≤ n) × ((i ≤ countMost) × IsL (upto i) (lval (upto i)))
+      Facts i = (i ≤ n) × ((i ≤ count_most) × IsL (upto i) (lval (upto i)))
 
       -- [the borrow; the token; list; i; room for the test's three, for the offset, the place and the element; jobs; n; room for the result; that each local dies; the slice's last value]
       abbrev Body : ℕ → List (Item 𝓤)
@@ -200,7 +200,7 @@ module _ {M : Type 1} {𝓤 : Ura M} (𝓛 : Logic 𝓤) (mem : Memory → SProp
       abbrev Left : Out → SProp 𝓤
       Left = after_block 𝓤 H (after_seq 𝓤 H (Wp 𝓤 H C Λ E mir.t-5 (at_return 𝓤 H E Post)) (at_return 𝓤 H E Post))
 
-      turn : (i : ℕ) (t : Bool) → goesOn i n ≡ t → Facts i → Sq 𝓛 (‵ Shared ∷ Body i) (runs C Λ E mir.turn-1 (any_q (after_turn 𝓤 H (Below 𝓛 Fewer Inv i) Left)))
+      turn : (i : ℕ) (t : Bool) → goes_on i n ≡ t → Facts i → Sq 𝓛 (‵ Shared ∷ Body i) (runs C Λ E mir.turn-1 (any_q (after_turn 𝓤 H (Below 𝓛 Fewer Inv i) Left)))
       unfolding after_turn
       turn i true e f =
           assigns ! (bin ! (load ! (from ! (stop !)) (look ! 3 refl)) (load ! (from ! (stop !)) (look ! 11 refl)) tt) (from ! (stop !)) (init ! 4 refl (tt, tt)) $
@@ -213,28 +213,28 @@ module _ {M : Type 1} {𝓤 : Ura M} (𝓛 : Logic 𝓤) (mem : Memory → SProp
           rewrite ! 8 (λ (p : ℕ). ‵ (fat full_share ty_ptr l₉ 0 (vptr b p))) (sym (place_is 16 o i)) refl $
           -- the element is read
           looks_slice ! tt J.the_row (Is J.the_row) (shows 𝓛 J.the_row) (LL.vals J.the_type J'.the_laws) (LL.tells J.the_type J'.the_laws) (LL.copy J.the_type J'.the_copy 𝓛) ys b o (λ q'.
-          elem_out ! J.the_row (Is J.the_row) (shows 𝓛 J.the_row) (LL.vals J.the_type J'.the_laws) (LL.tells J.the_type J'.the_laws) q' ys i noJob b o listed (λ is.
-          assigns ! (of_opd ! (load ! (from ! (hop ! (look ! 11 refl) (stop !))) (look_raw ! 0 refl))) (from ! (stop !)) (init ! 12 refl ((LL.lawful J.the_type J'.the_laws 𝓛).typed (jobAt ys i) _ is).0) $
-          elem_back ! J.the_row q' ys i noJob (jval (jobAt ys i) ∷ []) b o listed $ shuts_slice ! tt J.the_row q' ys b o $
+          elem_out ! J.the_row (Is J.the_row) (shows 𝓛 J.the_row) (LL.vals J.the_type J'.the_laws) (LL.tells J.the_type J'.the_laws) q' ys i no_job b o listed (λ is.
+          assigns ! (of_opd ! (load ! (from ! (hop ! (look ! 11 refl) (stop !))) (look_raw ! 0 refl))) (from ! (stop !)) (init ! 12 refl ((LL.lawful J.the_type J'.the_laws 𝓛).typed (job_at ys i) _ is).0) $
+          elem_back ! J.the_row q' ys i no_job (jval (job_at ys i) ∷ []) b o listed $ shuts_slice ! tt J.the_row q' ys b o $
           -- [the token; the borrow; list; i; …]: it is put in the list
-          use0 𝓛 (raw ((Put 𝓛 mem run).pre (to-put 𝓛 mem run (upto i) i (jobAt ys i)))) (asks-put 𝓛 mem run (upto i) i (jobAt ys i) f.1.1 fits is room) $
-          calls_at ! fm (Put 𝓛 mem run) known-put (to-put 𝓛 mem run (upto i) i (jobAt ys i)) (and_then ! (load ! (from ! (stop !)) (look ! 3 refl)) (and_then ! (load ! (from ! (stop !)) (look ! 4 refl)) (and_then ! (load ! (from ! (stop !)) (look ! 10 refl)) (no_more !)))) (λ v.
-          use1 𝓛 (later (some (λ (r : JobList). (‵ ftrue ⊛ ‵ ((L.the_row).own_val r (v ∷ []))) ⊛ raw (ensured 𝓛 put.ended (put.clauses 𝓛 mem run) tt (upto i, (i, (jobAt ys i, tt))) tt r)))) (id⊢ 𝓤 _) $ await ! tt $ pick ! (λ r.
-          split ! $ move ! (1 ∷ []) $ use1 𝓛 (raw (fact 𝓤 (r ≡ putJob (upto i) i (jobAt ys i)))) (put-says 𝓛 mem run (upto i) i (jobAt ys i) r) $
-          heard ! (r ≡ putJob (upto i) i (jobAt ys i)) (λ e₁. split ! $ drop ! $
+          use0 𝓛 (raw ((Put 𝓛 mem run).pre (to-put 𝓛 mem run (upto i) i (job_at ys i)))) (asks-put 𝓛 mem run (upto i) i (job_at ys i) f.1.1 fits is room) $
+          calls_at ! fm (Put 𝓛 mem run) known-put (to-put 𝓛 mem run (upto i) i (job_at ys i)) (and_then ! (load ! (from ! (stop !)) (look ! 3 refl)) (and_then ! (load ! (from ! (stop !)) (look ! 4 refl)) (and_then ! (load ! (from ! (stop !)) (look ! 10 refl)) (no_more !)))) (λ v.
+          use1 𝓛 (later (some (λ (r : JobList). (‵ ftrue ⊛ ‵ ((L.the_row).own_val r (v ∷ []))) ⊛ raw (ensured 𝓛 put.ended (put.clauses 𝓛 mem run) tt (upto i, (i, (job_at ys i, tt))) tt r)))) (id⊢ 𝓤 _) $ await ! tt $ pick ! (λ r.
+          split ! $ move ! (1 ∷ []) $ use1 𝓛 (raw (fact 𝓤 (r ≡ put_job (upto i) i (job_at ys i)))) (put-says 𝓛 mem run (upto i) i (job_at ys i) r) $
+          heard ! (r ≡ put_job (upto i) i (job_at ys i)) (λ e₁. split ! $ drop ! $
           facts ! L.the_row (Is L.the_row) (shows 𝓛 L.the_row) r (v ∷ []) (λ is'.
           land ! (from ! (stop !)) (store ! 2 refl ((LL.lawful L.the_type L'.the_laws 𝓛).typed r _ is').0) $
-          rewrite ! 2 (λ (u : Val). ‵ (fat full_share L'.mir l₃ 0 u)) (val_of r (upto (suc i)) v (e₁ ∙ gather-more ys i) is') refl $
+          rewrite ! 2 (λ (u : Val). ‵ (fat full_share L'.mir l₃ 0 u)) (val_of r (upto (suc i)) v (e₁ ∙ gather_more ys i) is') refl $
           assigns_last ! (bin ! (load ! (from ! (stop !)) (look ! 3 refl)) (lit ! tt) (record { fits = next })) (from ! (stop !)) (store ! 3 refl (tt, record { fits = next })) $
           rewrite ! 3 (λ (k : ℕ). ‵ (fat full_share word l₄ 0 (vint w64 k))) (add-one i) refl $
           forget ! 4 refl $ forget ! 5 refl $ forget ! 6 refl $ forget ! 7 refl $ forget ! 8 refl $ forget ! 9 refl $ move ! (1 ∷ 0 ∷ []) $
-          use1 𝓛 (given (Facts (suc i)) (‵ Shared)) (guard_i 𝓤 (Facts (suc i)) (sem 𝓛 Shared) (listed, (room, is-of r (upto (suc i)) v (e₁ ∙ gather-more ys i) is'))) $ again ! Fewer Inv i (suc i) fewer))))))
+          use1 𝓛 (given (Facts (suc i)) (‵ Shared)) (guard_i 𝓤 (Facts (suc i)) (sem 𝓛 Shared) (listed, (room, is-of r (upto (suc i)) v (e₁ ∙ gather_more ys i) is'))) $ again ! Fewer Inv i (suc i) fewer))))))
         where
           listed : i < n
-          listed = (goes_on i n e).0
+          listed = (goes_on_lem i n e).0
 
-          room : i < countMost
-          room = (goes_on i n e).1
+          room : i < count_most
+          room = (goes_on_lem i n e).1
 
           fits : i < 2 ^ 64
           fits = omega (arith, room)
@@ -261,13 +261,13 @@ module _ {M : Type 1} {𝓤 : Ura M} (𝓛 : Logic 𝓤) (mem : Memory → SProp
           move ! (2 ∷ 9 ∷ []) $ free1 ! $ move ! (2 ∷ 8 ∷ []) $ free1 ! $
           move ! (2 ∷ 7 ∷ []) $ free1 ! $ move ! (2 ∷ 6 ∷ []) $ free1 ! $ move ! (2 ∷ 5 ∷ []) $ free1 ! $ move ! (2 ∷ 4 ∷ []) $ free1 ! $
           move ! (2 ∷ 3 ∷ []) $ free1 ! $ free0 ! $
-          by ! (exits g (upto i) (ap (gatherUpto ys) (ends i n f.0 f.1.0 e)) f.1.1)
+          by ! (exits g (upto i) (ap (gather_upto ys) (ends i n f.0 f.1.0 e)) f.1.1)
 
       -- the loop, and what follows it
       looping : Facts 0 → Sq 𝓛 (‵ Shared ∷ Body 0) (runs C Λ E mir.t-4 (at_ret E Post))
       looping f =
           use1 𝓛 (given (Facts 0) (‵ Shared)) (guard_i 𝓤 (Facts 0) (sem 𝓛 Shared) f) $
-          first ! $ blocks ! $ loops ! 𝓣 Fewer fewer-ends Inv (λ i. learn ! (λ f. turn i (goesOn i n) refl f)) 0
+          first ! $ blocks ! $ loops ! 𝓣 Fewer fewer_ends Inv (λ i. learn ! (λ f. turn i (goes_on i n) refl f)) 0
 
       -- the locals as they are allocated, the last first, with the parameter stored; then the token, and what the slice owns
       abbrev Start : List (Item 𝓤)
@@ -282,7 +282,7 @@ module _ {M : Type 1} {𝓤 : Ura M} (𝓛 : Logic 𝓤) (mem : Memory → SProp
           use0 𝓛 (raw ((Empty 𝓛 mem run).pre (to-empty 𝓛 mem run n))) (asks-empty 𝓛 mem run n g.0) $
           calls_at ! fm (Empty 𝓛 mem run) known-empty (to-empty 𝓛 mem run n) (and_then ! (load ! (from ! (stop !)) (look ! 17 refl)) (no_more !)) (λ v.
           use1 𝓛 (later (some (λ (r : JobList). (‵ ftrue ⊛ ‵ ((L.the_row).own_val r (v ∷ []))) ⊛ raw (ensured 𝓛 empty.ended (empty.clauses 𝓛 mem run) tt (n, tt) tt r)))) (id⊢ 𝓤 _) $ await ! tt $ pick ! (λ r.
-          split ! $ move ! (1 ∷ []) $ use1 𝓛 (raw (fact 𝓤 (r ≡ emptyList n))) (empty-says 𝓛 mem run n r) $ heard ! (r ≡ emptyList n) (λ e. split ! $
+          split ! $ move ! (1 ∷ []) $ use1 𝓛 (raw (fact 𝓤 (r ≡ empty_list n))) (empty-says 𝓛 mem run n r) $ heard ! (r ≡ empty_list n) (λ e. split ! $
           drop ! $
           facts ! L.the_row (Is L.the_row) (shows 𝓛 L.the_row) r (v ∷ []) (λ is.
           land ! (from ! (stop !)) (init ! 14 refl ((LL.lawful L.the_type L'.the_laws 𝓛).typed r _ is).0) $

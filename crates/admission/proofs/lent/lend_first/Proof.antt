@@ -52,8 +52,8 @@ use denote.Triple.Walked.{says, needs, Stays, stay_none, walk_of, Goes-none, Wal
 use denote.Exit.{yes}
 use Rattle.job.specs.declared.record.Job.{Job}
 use Rattle.admission.specs.declared.answer.Admission.{Admission}
-use Rattle.admission.specs.Answer.{toldAdmission}
-use Rattle.admission.specs.Lent.{admitOf}
+use Rattle.admission.specs.Answer.{told_admission}
+use Rattle.admission.specs.Lent.{admit_of}
 use Rattle.job.specs.contracts.record.Job as J
 use Rattle.job.proofs.record.Job.TheLaws as J'
 use Rattle.admission.specs.contracts.answer.Admission as R
@@ -150,8 +150,8 @@ module _ {M : Type 1} {𝓤 : Ura M} (𝓛 : Logic 𝓤) (mem : Memory → SProp
   abbrev to-admit : Lft → ℕ → GName → (Admit 𝓛 mem run).Ghost
   to-admit κ b γ = (((κ, tt), (full_share, tt), tt, (ref b γ, (m, tt)), (v b ∷ [], (vint w32 m ∷ [], tt))), tt)
 
-  admit-says : (κ : Lft) (b : ℕ) (γ : GName) (r : Admission) → ent 𝓤 (ensured 𝓛 admit.ended (admit.clauses 𝓛 mem run) (κ, tt) (ref b γ, (m, tt)) tt r) (fact 𝓤 (toldAdmission r ≡ admitOf (take n ys) m))
-  admit-says κ b γ r = ex_e 𝓤 _ (λ ws. snd∗ 𝓤 (sem 𝓛 (lasts admit.ended (κ, tt) (ref b γ, (m, tt)) ws)) (fact 𝓤 (toldAdmission r ≡ admitOf (take n ys) m)))
+  admit-says : (κ : Lft) (b : ℕ) (γ : GName) (r : Admission) → ent 𝓤 (ensured 𝓛 admit.ended (admit.clauses 𝓛 mem run) (κ, tt) (ref b γ, (m, tt)) tt r) (fact 𝓤 (told_admission r ≡ admit_of (take n ys) m))
+  admit-says κ b γ r = ex_e 𝓤 _ (λ ws. snd∗ 𝓤 (sem 𝓛 (lasts admit.ended (κ, tt) (ref b γ, (m, tt)) ws)) (fact 𝓤 (told_admission r ≡ admit_of (take n ys) m)))
 
   module _ (is : Is Jobs ys (aval ys ∷ [])) (gn : n < 2 ^ 64) (gm : m < 2 ^ 32) (small : n ≤ 40) where
     len : length ys ≡ 40
@@ -169,7 +169,7 @@ module _ {M : Type 1} {𝓤 : Ura M} (𝓛 : Logic 𝓤) (mem : Memory → SProp
         nothing ! $ owned ! u32 (Is u32) (uint_Makes 𝓛 w32) m _ (refl, gm) $ fjoin ! $ move ! (2 ∷ 0 ∷ []) $ fjoin ! $ nothing ! $
         move ! (2 ∷ 0 ∷ []) $ join ! $ join ! $ frame ! $ done !
 
-    exits : (r : Admission) (u : Val) → toldAdmission r ≡ admitOf (take n ys) m → ent 𝓤 (sem 𝓛 ((R.the_row).own_val r (u ∷ []))) (Post u)
+    exits : (r : Admission) (u : Val) → told_admission r ≡ admit_of (take n ys) m → ent 𝓤 (sem 𝓛 ((R.the_row).own_val r (u ∷ []))) (Post u)
     exits r u e =
         qed 𝓛 (‵ ((R.the_row).own_val r (u ∷ [])) ∷ []) ∵
         suffices ! _ (ends_at 𝓛 lend-first.ended stayed (lend-first.clauses 𝓛 mem run) bound u r (tt, (tt, (tt, tt))) (tt, (tt, (tt, tt)))) $
@@ -204,8 +204,8 @@ module _ {M : Type 1} {𝓤 : Ura M} (𝓛 : Logic 𝓤) (mem : Memory → SProp
             move ! (2 ∷ 0 ∷ []) $ use2 𝓛 (raw ((Admit 𝓛 mem run).pre (to-admit (α ∷ []) l₄ γ))) (asks (α ∷ []) l₄ γ) $
             calls_at ! fm (Admit 𝓛 mem run) known (to-admit (α ∷ []) l₄ γ) (and_then ! (load ! (from ! (stop !)) (look ! 3 refl)) (and_then ! (load ! (from ! (stop !)) (look ! 8 refl)) (no_more !))) (λ u.
             use1 𝓛 (later (some (λ (r : Admission). ((‵ (flft (α ∷ []) full_share) ⊛ ‵ ftrue) ⊛ ‵ ((R.the_row).own_val r (u ∷ []))) ⊛ raw (ensured 𝓛 admit.ended (admit.clauses 𝓛 mem run) ((α ∷ []), tt) (ref l₄ γ, (m, tt)) tt r)))) (id⊢ 𝓤 _) $ await ! tt $ pick ! (λ r.
-            split ! $ move ! (1 ∷ []) $ use1 𝓛 (raw (fact 𝓤 (toldAdmission r ≡ admitOf (take n ys) m))) (admit-says (α ∷ []) l₄ γ r) $
-            heard ! (toldAdmission r ≡ admitOf (take n ys) m) (λ e. split ! $ split ! $
+            split ! $ move ! (1 ∷ []) $ use1 𝓛 (raw (fact 𝓤 (told_admission r ≡ admit_of (take n ys) m))) (admit-says (α ∷ []) l₄ γ r) $
+            heard ! (told_admission r ≡ admit_of (take n ys) m) (λ e. split ! $ split ! $
             -- [the token; true; the result; the lender's part; the others; …]: the lifetime is ended, and the jobs are back
             lft_end ! tt $ move ! (0 ∷ 3 ∷ []) $ lent_back ! tt $ move ! (0 ∷ 3 ∷ []) $ use2 𝓛 (‵ (froom τ l₄ 0)) (room-again 𝓛 ys n l₄ len) $
             move ! (1 ∷ []) $ drop ! $ move ! (1 ∷ []) $

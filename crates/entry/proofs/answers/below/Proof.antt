@@ -7,13 +7,13 @@ use lib.ListN.{length}
 use borrow.Author.Rules.{rules}
 use borrow.Author.Tests.{ne_eqb}
 use Rattle.job.specs.declared.list.JobList.{JobList}
-use Rattle.job.specs.Limit.{countMost}
+use Rattle.job.specs.Limit.{count_most}
 use Rattle.job.specs.Told.{Told}
 use Rattle.text.specs.Written.{written}
-use Rattle.shortfall.specs.Shortfall.{shortfallTold, shortfallJobs}
+use Rattle.shortfall.specs.Shortfall.{shortfall_told, shortfall_jobs}
 use Rattle.entry.specs.JobBytes.{list_from}
-use Rattle.entry.specs.Below.{answersUpto}
-use Rattle.entry.proofs.BelowLaws.{told-sound, below-broken, below-refused, below-no-room, below-passes, below_stays, below-writes}
+use Rattle.entry.specs.Below.{answers_upto}
+use Rattle.entry.proofs.BelowLaws.{told_sound, below_broken, below_refused, below_no_room, below_passes, below_stays, below_writes}
 use Rattle.entry.proofs.answers.below.Statement.{statement}
 use Rattle.entry.proofs.answers.below.Tie as tie
 
@@ -21,12 +21,12 @@ use Rattle.entry.proofs.answers.below.Tie as tie
 asked :
     (c : tie.After-number2)
     → let a = c.before.before.before.before.before.before.args in
-    c.number2.result ≡ (shortfallTold (list_from a.jobs.now) a.setting).number
+    c.number2.result ≡ (shortfall_told (list_from a.jobs.now) a.setting).number
 asked c = cc (c.number2.ensures, c.before.shortfall.ensures.0, c.before.before.list-from.ensures)
 
 -- a list that is answered has at most 16 jobs
-few : (c : tie.After-number2) → c.number2.result ≡ 0 → c.before.before.list-from.result.count ≤ countMost
-few c answered = rw c.before.before.list-from.ensures (told-sound _ _ (sym (asked c) ∙ answered)).count.high
+few : (c : tie.After-number2) → c.number2.result ≡ 0 → c.before.before.list-from.result.count ≤ count_most
+few c answered = rw c.before.before.list-from.ensures (told_sound _ _ (sym (asked c) ∙ answered)).count.high
 
 number-requires : tie.Need-number-requires
 number-requires c κs = search rules
@@ -34,7 +34,7 @@ number-requires c κs = search rules
 returns : tie.Need-returns
 returns c =
     let a = c.before.before.before.before.args in
-    let told = below-broken a.jobs.now a.setting (length a.buf.now) c.before.if1.true in
+    let told = below_broken a.jobs.now a.setting (length a.buf.now) c.before.if1.true in
     (c.number.ensures ∙ ap (λ (t : Told). t.number) (sym told), below_stays _ _ _ told refl)
 
 list-from-requires : tie.Need-list-from-requires
@@ -51,7 +51,7 @@ returns-2 c =
     let a = c.before.before.before.before.before.before.before.args in
     let number = asked c.before in
     let refused = ap (λ (x : ℕ). eqb x 0) (sym number) ∙ ne_eqb c.before.number2.result 0 c.if2.true in
-    let told = below-refused a.jobs.now a.setting (length a.buf.now) c.before.before.before.before.if1.false refused in
+    let told = below_refused a.jobs.now a.setting (length a.buf.now) c.before.before.before.before.if1.false refused in
     (number ∙ ap (λ (t : Told). t.number) (sym told), below_stays _ _ _ told refused)
 
 mul-if3 : tie.Need-overflow-mul-if3
@@ -66,7 +66,7 @@ returns-3 c =
     let asks = c.before.before.before.before in
     let answered = sym (asked asks) ∙ c.before.before.before.if2.false in
     let short = subst (λ (l : JobList). length a.buf.now < l.count * 12) asks.before.before.list-from.ensures c.before.if3.true in
-    let told = below-no-room a.jobs.now a.setting (length a.buf.now) asks.before.before.before.if1.false answered short in
+    let told = below_no_room a.jobs.now a.setting (length a.buf.now) asks.before.before.before.if1.false answered short in
     (c.number3.ensures ∙ ap (λ (t : Told). t.number) (sym told), below_stays _ _ _ told refl)
 
 put-answers-requires : tie.Need-put-answers-requires
@@ -83,13 +83,13 @@ returns-4 c =
     let list = asks.before.before.list-from.ensures in
     let fits : asks.before.before.list-from.result.count * 12 ≤ length a.buf.now = omega arith in
     let told =
-    below-passes a.jobs.now a.setting (length a.buf.now) asks.before.before.before.if1.false answered
+    below_passes a.jobs.now a.setting (length a.buf.now) asks.before.before.before.if1.false answered
     (subst (λ (l : JobList). l.count * 12 ≤ length a.buf.now) list fits) in (
       sym (ap (λ (t : Told). t.number) told),
       c.before.before.put-answers.ensures
           ∙ ap (written a.buf.now 0)
-          (ap₂ answersUpto (asks.before.shortfall.ensures.2 ∙ ap (λ (l : JobList). shortfallJobs l a.setting) list) (ap (λ (l : JobList). l.count) list))
-          ∙ sym (below-writes a.jobs.now a.setting a.buf.now told),
+          (ap₂ answers_upto (asks.before.shortfall.ensures.2 ∙ ap (λ (l : JobList). shortfall_jobs l a.setting) list) (ap (λ (l : JobList). l.count) list))
+          ∙ sym (below_writes a.jobs.now a.setting a.buf.now told),
     )
 
 pub below-spec : {M : Type 1} → statement M

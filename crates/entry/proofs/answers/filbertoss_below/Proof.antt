@@ -5,7 +5,7 @@ use native.Mathlib.Omega.{arith}
 use lib.ListN.{length}
 use borrow.Author.Rules.{rules}
 use Rattle.job.specs.Told.{Told}
-use Rattle.entry.proofs.BelowLaws.{entry-broken, entry-broken-stays, entry-strange, entry-strange-stays, entry-asks, entry-writes}
+use Rattle.entry.proofs.BelowLaws.{entry_broken, entry_broken_stays, entry_strange, entry_strange_stays, entry_asks, entry_writes}
 use Rattle.entry.proofs.answers.filbertoss_below.Statement.{statement}
 use Rattle.entry.proofs.answers.filbertoss_below.Tie as tie
 
@@ -16,8 +16,8 @@ returns : tie.Need-returns
 returns c =
     let a = c.before.before.before.before.args in
     let broken = c.before.if1.true in (
-      c.number.ensures ∙ ap (λ (t : Told). t.number) (sym (entry-broken a.jobs.now a.order a.model a.spare (length a.buf.now) broken)),
-      entry-broken-stays a.jobs.now a.order a.model a.spare a.buf.now broken,
+      c.number.ensures ∙ ap (λ (t : Told). t.number) (sym (entry_broken a.jobs.now a.order a.model a.spare (length a.buf.now) broken)),
+      entry_broken_stays a.jobs.now a.order a.model a.spare a.buf.now broken,
     )
 
 number-requires-2 : tie.Need-number-requires-2
@@ -28,8 +28,8 @@ returns-2 c =
     let a = c.before.before.before.before.before.args in
     let strange = c.before.if2.true in (
       c.number2.ensures
-          ∙ ap (λ (t : Told). t.number) (sym (entry-strange a.jobs.now a.order a.model a.spare strange (length a.buf.now) c.before.before.if1.false)),
-      entry-strange-stays a.jobs.now a.order a.model a.spare strange a.buf.now,
+          ∙ ap (λ (t : Told). t.number) (sym (entry_strange a.jobs.now a.order a.model a.spare strange (length a.buf.now) c.before.before.if1.false)),
+      entry_strange_stays a.jobs.now a.order a.model a.spare strange a.buf.now,
     )
 
 below-requires : tie.Need-below-requires
@@ -43,8 +43,8 @@ returns-3 c =
     let a = c.before.before.before.before.before.before.before.before.args in
     let below = c.before.before.below.ensures in
     let plain : a.spare ≤ 1 = omega arith in (
-      below.0 ∙ ap (λ (t : Told). t.number) (sym (entry-asks a.jobs.now a.order a.model a.spare plain (length a.buf.now))),
-      below.1 ∙ sym (entry-writes a.jobs.now a.order a.model a.spare plain a.buf.now),
+      below.0 ∙ ap (λ (t : Told). t.number) (sym (entry_asks a.jobs.now a.order a.model a.spare plain (length a.buf.now))),
+      below.1 ∙ sym (entry_writes a.jobs.now a.order a.model a.spare plain a.buf.now),
     )
 
 pub filbertoss-below-spec : {M : Type 1} → statement M

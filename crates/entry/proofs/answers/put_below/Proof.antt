@@ -1,7 +1,7 @@
 -- `put_below` meets its contract: three numbers, one after another. Assumes nothing.
 use native.Mathlib.Omega.{arith}
 use borrow.Author.Rules.{rules}
-use Rattle.entry.proofs.BelowLaws.{word-ends, answer-ends}
+use Rattle.entry.proofs.BelowLaws.{word_ends, answer_ends}
 use Rattle.entry.proofs.answers.put_below.Statement.{statement}
 use Rattle.entry.proofs.answers.put_below.Tie as tie
 
@@ -24,11 +24,11 @@ returns : tie.Need-returns
 returns c =
     let a = c.before.before.before.before.before.before.before.before.before.before.before.before.before.before.args in
     let all =
-    answer-ends a.below
-    (word-ends a.buf.now a.at a.below.windows c.before.before.before.before.before.before.before.before.before.before.before.put_word.ensures (omega arith))
-    (word-ends _ _ a.below.short c.before.before.before.before.before.before.before.put-word2.ensures (omega arith))
+    answer_ends a.below
+    (word_ends a.buf.now a.at a.below.windows c.before.before.before.before.before.before.before.before.before.before.before.put_word.ensures (omega arith))
+    (word_ends _ _ a.below.short c.before.before.before.before.before.before.before.put-word2.ensures (omega arith))
     c.before.before.before.first-number.ensures
-    (word-ends _ _ _ c.before.before.put-word3.ensures (omega arith)) in
+    (word_ends _ _ _ c.before.before.put-word3.ensures (omega arith)) in
     (all.place, all.bytes)
 
 pub put-below-spec : {M : Type 1} → statement M

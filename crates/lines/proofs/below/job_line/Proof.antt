@@ -2,11 +2,11 @@
 use native.Mathlib.Omega.{arith}
 use borrow.Author.Rules.{rules}
 use Rattle.text.specs.Ascii.{ascii}
-use Rattle.text.proofs.PrintLaws.{decimal-most}
+use Rattle.text.proofs.PrintLaws.{decimal_most}
 use Rattle.text.proofs.WrittenLaws.{ends, followed}
 use Rattle.lines.specs.Parts.{labelled}
-use Rattle.lines.specs.Below.{fallText, belowText}
-use Rattle.lines.proofs.LengthLaws.{fall-most, below-fits, whole-line}
+use Rattle.lines.specs.Below.{fall_text, below_text}
+use Rattle.lines.proofs.LengthLaws.{fall_most, below_fits, whole_line}
 use Rattle.lines.proofs.below.job_line.Statement.{statement}
 use Rattle.lines.proofs.below.job_line.Tie as tie
 
@@ -17,18 +17,18 @@ put-labelled-requires : tie.Need-put-labelled-requires
 put-labelled-requires c κs = search rules
 
 put-fall-requires : tie.Need-put-fall-requires
-put-fall-requires c κs = omega (arith, decimal-most c.before.before.before.before.args.job)
+put-fall-requires c κs = omega (arith, decimal_most c.before.before.before.before.args.job)
 
 returns : tie.Need-returns
-unfolding belowText
+unfolding below_text
 returns c =
     let a = c.before.before.before.before.before.args in
     let b = a.below in
-    let job-most = decimal-most a.job in
-    let most = fall-most b.short b.windows b.first in
-    whole-line (omega arith) (below-fits a.job b)
+    let job-most = decimal_most a.job in
+    let most = fall_most b.short b.windows b.first in
+    whole_line (omega arith) (below_fits a.job b)
     (followed (ends a.buf.now 0 (labelled (ascii "job ") a.job) c.before.before.put-labelled.ensures (omega arith))
-    (ends _ _ (fallText b.short b.windows b.first) c.put-fall.ensures (omega arith)))
+    (ends _ _ (fall_text b.short b.windows b.first) c.put-fall.ensures (omega arith)))
 
 pub job-line-spec : {M : Type 1} → statement M
 job-line-spec =

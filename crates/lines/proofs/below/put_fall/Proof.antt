@@ -2,10 +2,10 @@
 use native.Mathlib.Omega.{arith}
 use borrow.Author.Rules.{rules}
 use Rattle.text.specs.Ascii.{ascii}
-use Rattle.text.proofs.PrintLaws.{decimal-most}
+use Rattle.text.proofs.PrintLaws.{decimal_most}
 use Rattle.text.proofs.WrittenLaws.{ends, followed}
 use Rattle.lines.specs.Parts.{labelled}
-use Rattle.lines.proofs.LengthLaws.{below-most}
+use Rattle.lines.proofs.LengthLaws.{below_most}
 use Rattle.lines.proofs.below.put_fall.Statement.{statement}
 use Rattle.lines.proofs.below.put_fall.Tie as tie
 
@@ -37,7 +37,7 @@ cast-put-labelled-2 : tie.Need-overflow-cast-put-labelled-2
 cast-put-labelled-2 c = search rules
 
 put-labelled-requires-2 : tie.Need-put-labelled-requires-2
-put-labelled-requires-2 c κs = let known = below-most c.before.before.before.before.before.before.before.before.before.before.before.before.before.args.below in omega arith
+put-labelled-requires-2 c κs = let known = below_most c.before.before.before.before.before.before.before.before.before.before.before.before.before.args.below in omega arith
 
 slice-aggregate-put-labelled-3 : tie.Need-slice-aggregate-put-labelled-3
 slice-aggregate-put-labelled-3 c = search rules
@@ -46,15 +46,15 @@ cast-put-labelled-3 : tie.Need-overflow-cast-put-labelled-3
 cast-put-labelled-3 c = search rules
 
 put-labelled-requires-3 : tie.Need-put-labelled-requires-3
-put-labelled-requires-3 c κs = let known = below-most c.before.before.before.before.before.before.before.before.before.before.before.before.before.before.before.before.before.before.args.below in omega arith
+put-labelled-requires-3 c κs = let known = below_most c.before.before.before.before.before.before.before.before.before.before.before.before.before.before.before.before.before.before.args.below in omega arith
 
 slice-aggregate-put-text-2 : tie.Need-slice-aggregate-put-text-2
 slice-aggregate-put-text-2 c = search rules
 
 put-text-requires-2 : tie.Need-put-text-requires-2
 put-text-requires-2 c κs =
-    let known = below-most c.before.before.before.before.before.before.before.before.before.before.before.before.before.before.before.before.before.before.before.before.before.before.before.args.below in
-    omega (arith, decimal-most c.before.before.before.before.before.before.before.before.before.before.before.before.before.before.before.before.before.before.before.before.first.given.0.0)
+    let known = below_most c.before.before.before.before.before.before.before.before.before.before.before.before.before.before.before.before.before.before.before.before.before.before.before.args.below in
+    omega (arith, decimal_most c.before.before.before.before.before.before.before.before.before.before.before.before.before.before.before.before.before.before.before.before.first.given.0.0)
 
 same_length : tie.Need-same-length
 same_length c = search rules
@@ -70,8 +70,8 @@ returns-2 c =
     let a = c.before.before.before.before.before.before.before.before.before.before.before.before.before.before.before.before.before.before.before.before.before.before.before.before.before.before.args in
     let first = c.before.before.before.before.before.before.before.before.before.before.before.before.before.before.before.before.before.before.before.before.before.before.before.first.given in
     let slot = first.0.0 in
-    let known = below-most a.below in
-    let slot-most = decimal-most slot in
+    let known = below_most a.below in
+    let slot_most = decimal_most slot in
     let all =
     followed (ends a.buf.now a.at (labelled (ascii " below in ") a.below.short) c.before.before.before.before.before.before.before.before.before.before.before.before.before.before.before.before.before.before.put-labelled.ensures (omega arith))
     (followed (ends _ _ (labelled (ascii " of ") a.below.windows) c.before.before.before.before.before.before.before.before.before.before.before.before.put-labelled2.ensures (omega arith))

@@ -1,9 +1,9 @@
 -- `put_labelled` meets its contract: the number follows the label. Assumes nothing.
 use native.Mathlib.Omega.{arith}
 use borrow.Author.Rules.{rules}
-use Rattle.text.specs.Decimal.{decimalOf}
+use Rattle.text.specs.Decimal.{decimal_of}
 use Rattle.text.proofs.WrittenLaws.{ends, followed}
-use Rattle.text.proofs.PrintLaws.{decimal-most}
+use Rattle.text.proofs.PrintLaws.{decimal_most}
 use Rattle.lines.proofs.parts.put_labelled.Statement.{statement}
 use Rattle.lines.proofs.parts.put_labelled.Tie as tie
 
@@ -22,7 +22,7 @@ returns c =
     let all =
     followed
     (ends a.buf.now a.at a.label.now c.before.before.before.before.before.before.put-text.ensures (omega arith))
-    (ends _ _ (decimalOf a.x) c.before.before.put-decimal.ensures (omega (arith, decimal-most a.x))) in
+    (ends _ _ (decimal_of a.x) c.before.before.put-decimal.ensures (omega (arith, decimal_most a.x))) in
     (all.place, all.bytes)
 
 pub put-labelled-spec : {M : Type 1} → statement M

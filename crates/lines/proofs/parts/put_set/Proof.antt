@@ -4,25 +4,25 @@ use mathlib.Core.Logic.{⊎_elim}
 use Prim.Native.Nat.{◌-◌, ◌/◌, ◌^◌, ◌≤◌}
 use native.Mathlib.Nat.{div-one}
 use native.Mathlib.Omega.{arith}
-use Rattle.job.specs.Limit.{countMost}
-use Rattle.text.proofs.WrittenLaws.{Ends, ends-length, ends-at-once}
-use Rattle.lines.specs.Slot.{setText}
-use Rattle.lines.proofs.SetLaws.{half, has_room, put_in, put-out}
+use Rattle.job.specs.Limit.{count_most}
+use Rattle.text.proofs.WrittenLaws.{Ends, ends_length, ends_at_once}
+use Rattle.lines.specs.Slot.{set_text}
+use Rattle.lines.proofs.SetLaws.{half, has_room, put_in, put_out}
 use Rattle.lines.proofs.parts.put_set.Statement.{statement}
 use Rattle.lines.proofs.parts.put_set.Tie as tie
 
 abbrev invariant-loop : tie.invariant-loop
 invariant-loop buf₀ at label set end₀ rest₀ job₀ buf end rest job =
-    (job ≤ countMost) × (rest ≡ set / 2 ^ job) × Ends buf₀ at (setText label set job) buf end
+    (job ≤ count_most) × (rest ≡ set / 2 ^ job) × Ends buf₀ at (set_text label set job) buf end
 
 abbrev decreases-loop : tie.decreases-loop
-decreases-loop buf₀ at label set end₀ rest₀ job₀ buf end rest job = countMost - job
+decreases-loop buf₀ at label set end₀ rest₀ job₀ buf end rest job = count_most - job
 
 loop-holds : tie.Need-loop-init invariant-loop decreases-loop
-unfolding setText
+unfolding set_text
 loop-holds c =
     let a = c.before.before.args in
-    (omega arith, sym (div-one a.set), ends-at-once a.buf.now a.at (omega arith))
+    (omega arith, sym (div-one a.set), ends_at_once a.buf.now a.at (omega arith))
 
 put-labelled-requires : tie.Need-put-labelled-requires invariant-loop decreases-loop
 put-labelled-requires c κs =
@@ -48,18 +48,18 @@ loop-again c =
           (put_in a.label.now a.set (omega arith) a.buf.now a.at (omega arith) l.job l.rest (omega arith) l.invariant.1 l.invariant.2 w.0.taken w.2.ensures))
           (λ w.
           rw (w.1, w.2)
-          (put-out a.label.now a.set (omega arith) a.buf.now a.at (omega arith) l.job l.rest (omega arith) l.invariant.1 l.invariant.2 w.0.left))
+          (put_out a.label.now a.set (omega arith) a.buf.now a.at (omega arith) l.job l.rest (omega arith) l.invariant.1 l.invariant.2 w.0.left))
           c.if1.branch,
     )
 
 same_length : tie.Need-same-length invariant-loop decreases-loop
-same_length c = ends-length c.before.loop.invariant.2
+same_length c = ends_length c.before.loop.invariant.2
 
 returns : tie.Need-returns invariant-loop decreases-loop
 returns c =
     let a = c.before.before.before.before.args in
     let l = c.before.loop in
-    let all : l.job ≡ countMost = omega arith in
+    let all : l.job ≡ count_most = omega arith in
     let whole = rw all at l.invariant.2 in
     (whole.place, whole.bytes)
 

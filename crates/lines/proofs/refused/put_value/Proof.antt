@@ -7,8 +7,8 @@ use Rattle.job.specs.Told.{told}
 use Rattle.text.specs.Ascii.{ascii}
 use Rattle.text.proofs.WrittenLaws.{written_none}
 use Rattle.lines.specs.Parts.{labelled}
-use Rattle.lines.specs.Refused.{valueText}
-use Rattle.lines.proofs.RefusedLaws.{job-named, nothing-named}
+use Rattle.lines.specs.Refused.{value_text}
+use Rattle.lines.proofs.RefusedLaws.{job_named, nothing_named}
 use Rattle.lines.proofs.refused.put_value.Statement.{statement}
 use Rattle.lines.proofs.refused.put_value.Tie as tie
 
@@ -48,7 +48,7 @@ returns c = rw c.before.before.before.before.before.before.refusal5.given.1 c.be
 returns-2 : tie.Need-returns-2
 returns-2 c =
     let a = c.before.before.args in
-    rw (nothing-named a.refusal c.match.keys6) (sym (add-zero a.at), sym (written_none a.buf.now a.at))
+    rw (nothing_named a.refusal c.match.keys6) (sym (add-zero a.at), sym (written_none a.buf.now a.at))
 
 same-length-2 : tie.Need-same-length-2
 same-length-2 c = search rules
@@ -56,10 +56,10 @@ same-length-2 c = search rules
 returns-3 : tie.Need-returns-3
 returns-3 c =
     let m = c.before.before.before.before.before.match in
-    let named : valueText (told c.before.before.before.before.before.before.before.args.refusal) ≡ labelled (ascii " job ") m.job =
-    ⊎_elim (λ w. job-named w.1.given.1 w.3 refl)
-    (⊎_elim (λ w. job-named w.1.given.1 w.3 refl)
-    (⊎_elim (λ w. job-named w.1.given.1 w.3 refl) (λ w. job-named w.1.given.1 w.3 refl)))
+    let named : value_text (told c.before.before.before.before.before.before.before.args.refusal) ≡ labelled (ascii " job ") m.job =
+    ⊎_elim (λ w. job_named w.1.given.1 w.3 refl)
+    (⊎_elim (λ w. job_named w.1.given.1 w.3 refl)
+    (⊎_elim (λ w. job_named w.1.given.1 w.3 refl) (λ w. job_named w.1.given.1 w.3 refl)))
     m.branch in
     rw named c.before.before.put-labelled2.ensures
 

@@ -4,8 +4,8 @@ use borrow.Author.Rules.{rules}
 use Rattle.text.specs.Ascii.{ascii}
 use Rattle.text.proofs.WrittenLaws.{ends, followed}
 use Rattle.lines.specs.Parts.{labelled}
-use Rattle.lines.specs.Summary.{totalsText}
-use Rattle.lines.proofs.LengthLaws.{totals-most, totals-fits, whole-line}
+use Rattle.lines.specs.Summary.{totals_text}
+use Rattle.lines.proofs.LengthLaws.{totals_most, totals_fits, whole_line}
 use Rattle.lines.proofs.summary.totals_line.Statement.{statement}
 use Rattle.lines.proofs.summary.totals_line.Tie as tie
 
@@ -25,33 +25,33 @@ cast-put-labelled-2 : tie.Need-overflow-cast-put-labelled-2
 cast-put-labelled-2 c = search rules
 
 put-labelled-requires-2 : tie.Need-put-labelled-requires-2
-put-labelled-requires-2 c κs = let known = totals-most c.before.before.before.before.before.before.before.args.totals in omega arith
+put-labelled-requires-2 c κs = let known = totals_most c.before.before.before.before.before.before.before.args.totals in omega arith
 
 slice-aggregate-put-labelled-3 : tie.Need-slice-aggregate-put-labelled-3
 slice-aggregate-put-labelled-3 c = search rules
 
 put-labelled-requires-3 : tie.Need-put-labelled-requires-3
-put-labelled-requires-3 c κs = let known = totals-most c.before.before.before.before.before.before.before.before.before.before.args.totals in omega arith
+put-labelled-requires-3 c κs = let known = totals_most c.before.before.before.before.before.before.before.before.before.before.args.totals in omega arith
 
 slice-aggregate-put-labelled-4 : tie.Need-slice-aggregate-put-labelled-4
 slice-aggregate-put-labelled-4 c = search rules
 
 put-labelled-requires-4 : tie.Need-put-labelled-requires-4
-put-labelled-requires-4 c κs = let known = totals-most c.before.before.before.before.before.before.before.before.before.before.before.before.before.args.totals in omega arith
+put-labelled-requires-4 c κs = let known = totals_most c.before.before.before.before.before.before.before.before.before.before.before.before.before.args.totals in omega arith
 
 slice-aggregate-put-text : tie.Need-slice-aggregate-put-text
 slice-aggregate-put-text c = search rules
 
 put-text-requires : tie.Need-put-text-requires
-put-text-requires c κs = let known = totals-most c.before.before.before.before.before.before.before.before.before.before.before.before.before.before.before.before.args.totals in omega arith
+put-text-requires c κs = let known = totals_most c.before.before.before.before.before.before.before.before.before.before.before.before.before.before.before.before.args.totals in omega arith
 
 returns : tie.Need-returns
-unfolding totalsText
+unfolding totals_text
 returns c =
     let a = c.before.before.before.before.before.before.before.before.before.before.before.before.before.before.before.before.before.args in
     let t = a.totals in
-    let known = totals-most t in
-    whole-line (omega arith) (totals-fits t)
+    let known = totals_most t in
+    whole_line (omega arith) (totals_fits t)
     (followed (ends a.buf.now 0 (labelled (ascii "given ") t.given) c.before.before.before.before.before.before.before.before.before.before.before.before.before.put-labelled.ensures (omega arith))
     (followed (ends _ _ (labelled (ascii " idle ") t.idle) c.before.before.before.before.before.before.before.before.before.put-labelled2.ensures (omega arith))
     (followed (ends _ _ (labelled (ascii " tagged ") t.tags) c.before.before.before.before.before.before.put-labelled3.ensures (omega arith))

@@ -1,7 +1,7 @@
 -- `totals_in_range` meets its contract: its tests are those of the definition. Assumes nothing.
 use mathlib.Core.Path.{refl}
 use borrow.Author.Rules.{rules}
-use Rattle.run.specs.Range.{totalsInRange}
+use Rattle.run.specs.Range.{totals_in_range}
 use Rattle.run.proofs.range.totals_in_range.Statement.{statement}
 use Rattle.run.proofs.range.totals_in_range.Tie as tie
 
@@ -18,7 +18,7 @@ add-result : tie.Need-overflow-add-result
 add-result c = search rules
 
 returns : tie.Need-returns
-unfolding totalsInRange
+unfolding totals_in_range
 returns c = refl
 
 pub totals-in-range-spec : {M : Type 1} → statement M

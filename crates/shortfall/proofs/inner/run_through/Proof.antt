@@ -5,10 +5,10 @@ use mathlib.Core.Logic.{⊎_elim}
 use Prim.Native.Nat.{◌+◌, ◌-◌, ◌≤◌, ◌<◌}
 use native.Mathlib.Omega.{arith}
 use borrow.Author.Rules.{rules}
-use Rattle.job.specs.Limit.{countMost}
-use Rattle.run.specs.State.{clockMost}
-use Rattle.shortfall.proofs.PassLaws.{Passing, Standing, stand-starts, pass-starts, pass-sound, pass-fair, pass-short, pass-moved-sound, pass-more, stand-next}
-use Rattle.shortfall.proofs.TallyLaws.{Tallied, tallies-start, tally-now, tallies-more, tallies-same, tallies-next, tallies-done}
+use Rattle.job.specs.Limit.{count_most}
+use Rattle.run.specs.State.{clock_most}
+use Rattle.shortfall.proofs.PassLaws.{Passing, Standing, stand_starts, pass_starts, pass_sound, pass_fair, pass_short, pass_moved_sound, pass_more, stand_next}
+use Rattle.shortfall.proofs.TallyLaws.{Tallied, tallies_start, tally_now, tallies_more, tallies_same, tallies_next, tallies_done}
 use Rattle.shortfall.proofs.inner.run_through.Statement.{statement}
 use Rattle.shortfall.proofs.inner.run_through.Tie as tie
 
@@ -29,12 +29,12 @@ decreases-loop state slots setting places₀ tallies₀ chosen₀ n₀ places ta
 -- no more than 16 places, and room on the clock, from inside the inner loop
 few :
     (h : tie.At-loop2 invariant-loop2 decreases-loop2 invariant-loop decreases-loop)
-    → h.before.before.before.before.before.before.before.before.args.state.count ≤ countMost
+    → h.before.before.before.before.before.before.before.before.args.state.count ≤ count_most
 few h = h.before.before.before.before.before.before.before.before.requires.0.count.high
 
 room :
     (h : tie.At-loop2 invariant-loop2 decreases-loop2 invariant-loop decreases-loop)
-    → h.before.before.before.before.before.before.before.before.args.state.clock + h.before.before.before.loop.n ≤ clockMost
+    → h.before.before.before.before.before.before.before.before.args.state.clock + h.before.before.before.loop.n ≤ clock_most
 room h = let fits = h.before.before.before.before.before.before.before.before.requires.1.0 in omega arith
 
 no-tally-requires : tie.Need-no-tally-requires invariant-loop2 decreases-loop2 invariant-loop decreases-loop
@@ -47,13 +47,13 @@ loop-holds : tie.Need-loop-init invariant-loop2 decreases-loop2 invariant-loop d
 loop-holds c =
     let start = c.before.before.before.before in
     let state = start.args.state in
-    (omega arith, stand-starts state start.requires.0 start.requires.1.1 c.choose.ensures, tallies-start state c.before.no-tally.ensures)
+    (omega arith, stand_starts state start.requires.0 start.requires.1.1 c.choose.ensures, tallies_start state c.before.no-tally.ensures)
 
 nobody-requires : tie.Need-nobody-requires invariant-loop2 decreases-loop2 invariant-loop decreases-loop
 nobody-requires c κs = search rules
 
 loop2-holds : tie.Need-loop2-init invariant-loop2 decreases-loop2 invariant-loop decreases-loop
-loop2-holds c = (pass-starts _ c.before.before.loop.invariant.1 c.nobody.ensures, c.before.before.loop.invariant.2)
+loop2-holds c = (pass_starts _ c.before.before.loop.invariant.1 c.nobody.ensures, c.before.before.loop.invariant.2)
 
 mul-passed : tie.Need-overflow-mul-passed invariant-loop2 decreases-loop2 invariant-loop decreases-loop
 mul-passed c = omega (arith, few c.before)
@@ -67,7 +67,7 @@ passed-requires c κs =
     let outer = h.before.before.before in
     let start = outer.before.before.before.before.before in
     let inside : h.loop2.i < start.args.state.count = omega arith in
-    (pass-sound start.args.state start.requires.0 _ (room h) h.loop2.invariant.0 inside outer.loop.invariant.1, pass-fair start.args.state start.requires.0 _ (room h) h.loop2.invariant.0 inside outer.loop.invariant.1)
+    (pass_sound start.args.state start.requires.0 _ (room h) h.loop2.invariant.0 inside outer.loop.invariant.1, pass_fair start.args.state start.requires.0 _ (room h) h.loop2.invariant.0 inside outer.loop.invariant.1)
 
 mul-places : tie.Need-overflow-mul-places invariant-loop2 decreases-loop2 invariant-loop decreases-loop
 mul-places c = omega (arith, few c.before.before.before.before)
@@ -85,7 +85,7 @@ noted-requires : tie.Need-noted-requires invariant-loop2 decreases-loop2 invaria
 noted-requires c κs =
     let h = c.before.before.before.before.before.before in
     let start = h.before.before.before.before.before.before.before.before in
-    omega (arith, room h, tally-now start.args.state (few h) h.loop2.invariant.1 (omega arith))
+    omega (arith, room h, tally_now start.args.state (few h) h.loop2.invariant.1 (omega arith))
 
 mul-tallies : tie.Need-overflow-mul-tallies invariant-loop2 decreases-loop2 invariant-loop decreases-loop
 mul-tallies c = omega (arith, few c.before.before.before.before.before.before.before)
@@ -99,7 +99,7 @@ better-requires c κs =
     let outer = h.before.before.before in
     let start = outer.before.before.before.before.before in
     let inside : h.loop2.i < start.args.state.count = omega arith in
-    (pass-moved-sound start.args.state start.requires.0 _ (room h) h.loop2.invariant.0 inside outer.loop.invariant.1 c.before.before.passed.ensures, h.loop2.invariant.0.best-small)
+    (pass_moved_sound start.args.state start.requires.0 _ (room h) h.loop2.invariant.0 inside outer.loop.invariant.1 c.before.before.passed.ensures, h.loop2.invariant.0.best_small)
 
 add-i : tie.Need-overflow-add-i invariant-loop2 decreases-loop2 invariant-loop decreases-loop
 add-i c = omega (arith, few c.before.before.before.before.before.before)
@@ -115,11 +115,11 @@ loop2-again c =
     let state = start.args.state in
     let inside : h.loop2.i < state.count = omega arith in
     let moves = c.before.before.before.passed.ensures in
-    let short = pass-short state start.requires.0 _ (room h) h.loop2.invariant.0 inside outer.loop.invariant.1 moves in (
-      pass-more state start.requires.0 _ (room h) h.loop2.invariant.0 inside outer.loop.invariant.1 moves c.better.ensures,
+    let short = pass_short state start.requires.0 _ (room h) h.loop2.invariant.0 inside outer.loop.invariant.1 moves in (
+      pass_more state start.requires.0 _ (room h) h.loop2.invariant.0 inside outer.loop.invariant.1 moves c.better.ensures,
       ⊎_elim
-          (λ w. rw w.3 (tallies-more state (few h) h.loop2.invariant.1 inside short w.0.taken w.2.ensures))
-          (λ w. rw w.1 (tallies-same state (few h) h.loop2.invariant.1 inside short w.0.left))
+          (λ w. rw w.3 (tallies_more state (few h) h.loop2.invariant.1 inside short w.0.taken w.2.ensures))
+          (λ w. rw w.1 (tallies_same state (few h) h.loop2.invariant.1 inside short w.0.left))
           c.before.if1.branch,
     )
 
@@ -134,14 +134,14 @@ loop-again c =
     let state = c.before.before.before.before.before.before.before.before.before.args.state in
     let inv = c.before.loop2.invariant in
     let all : c.before.loop2.i ≡ state.count = let p = inv.0 in omega arith in
-    (omega arith, stand-next state inv.0 all, tallies-next state (few c.before) inv.1 all)
+    (omega arith, stand_next state inv.0 all, tallies_next state (few c.before) inv.1 all)
 
 returns : tie.Need-returns invariant-loop2 decreases-loop2 invariant-loop decreases-loop
 returns c =
     let start = c.before.before.before.before.before.before in
     let loop = c.before.loop in
     let all : loop.n ≡ start.args.slots = omega arith in
-    rw (← all) (tallies-done start.args.state start.requires.0.count.high loop.invariant.2 refl)
+    rw (← all) (tallies_done start.args.state start.requires.0.count.high loop.invariant.2 refl)
 
 pub run-through-spec : {M : Type 1} → statement M
 run-through-spec =

@@ -7,10 +7,10 @@ use borrow.Author.Tests.{eqb-true}
 use Rattle.job.proofs.TestLaws.{both}
 use Rattle.place.specs.declared.setting.Setting.{Setting}
 use Rattle.run.specs.State.{fresh_of}
-use Rattle.lawful.proofs.AdmittedLaws.{admits-exactly}
-use Rattle.shortfall.specs.Tally.{talliesOf}
-use Rattle.shortfall.specs.Shortfall.{judgedOf}
-use Rattle.shortfall.proofs.NeverLaws.{never-tallied, window-order}
+use Rattle.lawful.proofs.AdmittedLaws.{admits_exactly}
+use Rattle.shortfall.specs.Tally.{tallies_of}
+use Rattle.shortfall.specs.Shortfall.{judged_of}
+use Rattle.shortfall.proofs.NeverLaws.{never_tallied, window_order_lem}
 use Rattle.shortfall.proofs.judge.admitted.Statement.{statement}
 use Rattle.shortfall.proofs.judge.admitted.Tie as tie
 
@@ -29,15 +29,15 @@ returns c =
     let args = start.args in
     let setting = args.setting in
     let tests = both (eqb setting.order 1) (eqb setting.model 0) c.before.before.if1.true in
-    let same = window-order setting (eqb-true setting.order 1 tests.0) (eqb-true setting.model 0 tests.1) in
+    let same = window_order_lem setting (eqb-true setting.order 1 tests.0) (eqb-true setting.model 0 tests.1) in
     let rest = start.requires.1.1 in
     let admits =
-    (admits-exactly args.list).1
+    (admits_exactly args.list).1
     (record { sound = start.requires.0; short = rw (← rest.1.0) rest.0; loaded = rw (← rest.1.0) rest.1.1 }) in
     let none =
-    never-tallied args.list start.requires.0 admits setting.spare args.cycle (let short = rest.0 in omega arith) c.before.no-tally.ensures
-    ∙ ap (λ (x : Setting). talliesOf (fresh_of args.list x) args.cycle) same in
-    c.told.ensures ∙ ap (judgedOf args.list args.cycle) none
+    never_tallied args.list start.requires.0 admits setting.spare args.cycle (let short = rest.0 in omega arith) c.before.no-tally.ensures
+    ∙ ap (λ (x : Setting). tallies_of (fresh_of args.list x) args.cycle) same in
+    c.told.ensures ∙ ap (judged_of args.list args.cycle) none
 
 by-run-requires : tie.Need-by-run-requires
 by-run-requires c κs = search rules

@@ -3,10 +3,10 @@ use mathlib.Core.Path.{ap, ◌∙◌}
 use native.Mathlib.Omega.{arith}
 use borrow.Author.Rules.{rules}
 use Rattle.run.specs.declared.state.State.{State}
-use Rattle.run.proofs.FreshLaws.{fresh-sound}
-use Rattle.shortfall.proofs.PassLaws.{fresh-untagged}
-use Rattle.shortfall.specs.Tally.{talliesOf}
-use Rattle.shortfall.specs.Shortfall.{judgedOf}
+use Rattle.run.proofs.FreshLaws.{fresh_sound}
+use Rattle.shortfall.proofs.PassLaws.{fresh_untagged}
+use Rattle.shortfall.specs.Tally.{tallies_of}
+use Rattle.shortfall.specs.Shortfall.{judged_of}
 use Rattle.shortfall.proofs.judge.by_run.Statement.{statement}
 use Rattle.shortfall.proofs.judge.by_run.Tie as tie
 
@@ -22,7 +22,7 @@ run-through-requires c κs =
     let list = start.args.list in
     let setting = start.args.setting in
     rw c.fresh.ensures
-    (fresh-sound list setting start.requires.0 start.requires.1.0, (let short = start.requires.1.1 in omega arith, fresh-untagged list setting start.requires.0.count.high))
+    (fresh_sound list setting start.requires.0 start.requires.1.0, (let short = start.requires.1.1 in omega arith, fresh_untagged list setting start.requires.0.count.high))
 
 told-requires : tie.Need-told-requires
 told-requires c κs = search rules
@@ -31,8 +31,8 @@ returns : tie.Need-returns
 returns c =
     let args = c.before.before.before.args in
     c.told.ensures
-    ∙ ap (judgedOf args.list args.cycle)
-    (c.before.run-through.ensures ∙ ap (λ (x : State). talliesOf x args.cycle) c.before.before.fresh.ensures)
+    ∙ ap (judged_of args.list args.cycle)
+    (c.before.run-through.ensures ∙ ap (λ (x : State). tallies_of x args.cycle) c.before.before.fresh.ensures)
 
 pub by-run-spec : {M : Type 1} → statement M
 by-run-spec = tie.close (tie.spec cast-slots fresh-requires run-through-requires told-requires returns)

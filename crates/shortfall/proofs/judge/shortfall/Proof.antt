@@ -7,15 +7,15 @@ use Rattle.job.specs.declared.list.JobList.{JobList}
 use Rattle.job.specs.declared.refusal.Refusal.{Refusal}
 use Rattle.job.specs.declared.refusal.Refusal.TheVariants.{Overload}
 use Rattle.job.specs.Limit.{relaxed}
-use Rattle.job.proofs.ToldLaws.{told-refuses}
+use Rattle.job.proofs.ToldLaws.{told_refuses}
 use Rattle.admission.specs.declared.answer.Admission.{Admission}
 use Rattle.admission.specs.declared.answer.Admission.TheVariants.{Refused}
-use Rattle.admission.specs.Answer.{toldAdmission}
-use Rattle.admission.proofs.AnswerLaws.{not-overload}
-use Rattle.admission.specs.Verdict.{verdictTold}
+use Rattle.admission.specs.Answer.{told_admission}
+use Rattle.admission.proofs.AnswerLaws.{not_overload}
+use Rattle.admission.specs.Verdict.{verdict_told}
 use Rattle.place.specs.Sound.{Allowed}
-use Rattle.place.proofs.Meaning.{allowed-exactly}
-use Rattle.shortfall.proofs.JudgeLaws.{strange-told, Cycled, refused-promise, judged-promise, admitted-cycled, over-cycled, verdict-told}
+use Rattle.place.proofs.Meaning.{allowed_exactly}
+use Rattle.shortfall.proofs.JudgeLaws.{strange_told, Cycled, refused_promise, judged_promise, admitted_cycled, over_cycled, verdict_told_lem}
 use Rattle.shortfall.proofs.judge.shortfall.Statement.{statement}
 use Rattle.shortfall.proofs.judge.shortfall.Tie as tie
 
@@ -28,8 +28,8 @@ nothing-requires c κs = search rules
 returns : tie.Need-returns
 returns c =
     let args = c.before.before.before.args in
-    refused-promise args.list args.setting _ c.nothing.ensures
-    (sym (strange-told args.list args.setting (sym c.before.before.allowed.ensures ∙ not-true _ c.before.if1.true))) refl
+    refused_promise args.list args.setting _ c.nothing.ensures
+    (sym (strange_told args.list args.setting (sym c.before.before.allowed.ensures ∙ not-true _ c.before.if1.true))) refl
 
 verdict-requires : tie.Need-verdict-requires
 verdict-requires c κs = search rules
@@ -40,14 +40,14 @@ enum-known-cycle c = search rules
 -- past row 15
 past : (c : tie.After-verdict) → Allowed c.before.before.before.args.setting
 past c =
-    (allowed-exactly c.before.before.before.args.setting).0
+    (allowed_exactly c.before.before.before.args.setting).0
     (sym c.before.before.allowed.ensures ∙ not-false _ c.before.if1.false)
 
 admitted-requires : tie.Need-admitted-requires
 admitted-requires c κs =
     let known = c.before.cycle.given in
     let list = c.before.before.before.before.before.before.args.list in
-    let cycle = admitted-cycled {l = list} (sym (ap toldAdmission known.1) ∙ c.before.before.before.verdict.ensures) in
+    let cycle = admitted_cycled {l = list} (sym (ap told_admission known.1) ∙ c.before.before.before.verdict.ensures) in
     (cycle.0.sound, (past c.before.before.before, (cycle.0.short, (cycle.0.is, cycle.1))))
 
 enum-known-refusal : tie.Need-enum-known-refusal
@@ -58,9 +58,9 @@ enum-known-refusal-2 c = search rules
 
 -- the cycle of a list that row 9 refuses
 over-told :
-    {list : JobList} {a : Admission} {r : Refusal} {h d : ℕ} → toldAdmission a ≡ verdictTold list relaxed → a ≡ Refused r → r ≡ Overload h d
+    {list : JobList} {a : Admission} {r : Refusal} {h d : ℕ} → told_admission a ≡ verdict_told list relaxed → a ≡ Refused r → r ≡ Overload h d
     → Cycled list h
-over-told {list} e known is = over-cycled {l = list} (sym (ap toldAdmission (known ∙ ap Refused is)) ∙ e)
+over-told {list} e known is = over_cycled {l = list} (sym (ap told_admission (known ∙ ap Refused is)) ∙ e)
 
 by-run-requires : tie.Need-by-run-requires
 by-run-requires c κs =
@@ -74,14 +74,14 @@ returns-2 : tie.Need-returns-2
 returns-2 c =
     let args = c.before.before.before.before.before.before.before.args in
     let known = c.before.before.cycle.given in
-    let cycle = admitted-cycled {l = args.list} (sym (ap toldAdmission known.1) ∙ c.before.before.before.before.verdict.ensures) in
-    judged-promise args.list args.setting known.0.0 (past c.before.before.before.before) cycle.0 c.admitted.ensures
+    let cycle = admitted_cycled {l = args.list} (sym (ap told_admission known.1) ∙ c.before.before.before.before.verdict.ensures) in
+    judged_promise args.list args.setting known.0.0 (past c.before.before.before.before) cycle.0 c.admitted.ensures
 
 returns-3 : tie.Need-returns-3
 returns-3 c =
     let args = c.before.before.before.before.before.before.before.before.before.before.args in
     let cycle = over-told c.before.before.before.before.before.before.before.verdict.ensures c.before.before.before.before.before.refusal.given.1 c.before.before.refusal2.given.1 in
-    judged-promise args.list args.setting _ (past c.before.before.before.before.before.before.before) cycle c.by-run.ensures
+    judged_promise args.list args.setting _ (past c.before.before.before.before.before.before.before) cycle c.by-run.ensures
 
 returns-4 : tie.Need-returns-4
 returns-4 c =
@@ -89,9 +89,9 @@ returns-4 c =
     let known = c.before.before.before.refusal.given in
     let allowed = past c.before.before.before.before.before in
     let told_is =
-    verdict-told args.list args.setting allowed known.0.0 (sym (ap toldAdmission known.1) ∙ c.before.before.before.before.before.verdict.ensures)
-    (not-overload c.before.match2.keys2) in
-    refused-promise args.list args.setting _ c.nothing2.ensures (sym told_is) (told-refuses known.0.0)
+    verdict_told_lem args.list args.setting allowed known.0.0 (sym (ap told_admission known.1) ∙ c.before.before.before.before.before.verdict.ensures)
+    (not_overload c.before.match2.keys2) in
+    refused_promise args.list args.setting _ c.nothing2.ensures (sym told_is) (told_refuses known.0.0)
 
 pub shortfall-spec : {M : Type 1} → statement M
 shortfall-spec =

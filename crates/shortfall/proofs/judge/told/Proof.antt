@@ -4,14 +4,14 @@ use Prim.Native.Nat.{◌-◌, ◌≤◌}
 use native.Mathlib.Omega.{arith}
 use lib.Dec.{ltb}
 use borrow.Author.Rules.{rules}
-use Rattle.run.proofs.SlotLaws.{byte_high, plus-byte}
-use Rattle.shortfall.specs.Shortfall.{judgedUpto}
-use Rattle.shortfall.proofs.JudgeLaws.{none-judged, one-more-judged, fallen-high}
+use Rattle.run.proofs.SlotLaws.{byte_high, plus_byte}
+use Rattle.shortfall.specs.Shortfall.{judged_upto}
+use Rattle.shortfall.proofs.JudgeLaws.{none_judged, one_more_judged, fallen_high}
 use Rattle.shortfall.proofs.judge.told.Statement.{statement}
 use Rattle.shortfall.proofs.judge.told.Tie as tie
 
 abbrev invariant-loop : tie.invariant-loop
-invariant-loop cycle list tallies all₀ at₀ all at = (at ≤ list.count) × (all ≡ judgedUpto list cycle tallies at)
+invariant-loop cycle list tallies all₀ at₀ all at = (at ≤ list.count) × (all ≡ judged_upto list cycle tallies at)
 
 abbrev decreases-loop : tie.decreases-loop
 decreases-loop cycle list tallies all₀ at₀ all at = list.count - at
@@ -20,7 +20,7 @@ nothing-requires : tie.Need-nothing-requires invariant-loop decreases-loop
 nothing-requires c κs = search rules
 
 loop-holds : tie.Need-loop-init invariant-loop decreases-loop
-loop-holds c = (omega arith, none-judged c.before.args.t1 c.before.args.cycle c.before.args.t3 c.nothing.ensures)
+loop-holds c = (omega arith, none_judged c.before.args.t1 c.before.args.cycle c.before.args.t3 c.nothing.ensures)
 
 mul-below : tie.Need-overflow-mul-below invariant-loop decreases-loop
 mul-below c = let few = c.before.before.before.requires.count.high in omega arith
@@ -46,7 +46,7 @@ add-fallen c =
     let loop = c.before.before.before.before.before.loop in
     let few = start.requires.count.high in
     omega
-    (arith, byte_high (ltb 0 c.before.below.result.short), fallen-high start.args.t1 start.args.cycle start.args.t3 loop.at loop.invariant.1)
+    (arith, byte_high (ltb 0 c.before.below.result.short), fallen_high start.args.t1 start.args.cycle start.args.t3 loop.at loop.invariant.1)
 
 mul-one : tie.Need-overflow-mul-one invariant-loop decreases-loop
 mul-one c = let few = c.before.before.before.before.before.before.before.requires.count.high in omega arith
@@ -64,7 +64,7 @@ loop-again : tie.Need-loop-preserved invariant-loop decreases-loop
 loop-again c =
     let args = c.before.before.before.before.before.before.before.args in
     let loop = c.before.before.before.before.before.loop in
-    (omega arith, one-more-judged args.t1 args.cycle args.t3 loop.at loop.invariant.1 c.before.below.ensures (plus-byte (ltb 0 c.before.below.result.short) _))
+    (omega arith, one_more_judged args.t1 args.cycle args.t3 loop.at loop.invariant.1 c.before.below.ensures (plus_byte (ltb 0 c.before.below.result.short) _))
 
 returns : tie.Need-returns invariant-loop decreases-loop
 returns c =

@@ -4,7 +4,7 @@ use Prim.Native.Nat.{◌+◌}
 use native.Mathlib.Omega.{arith}
 use borrow.Author.Rules.{rules}
 use Rattle.text.specs.Written.{written}
-use Rattle.text.proofs.PrintLaws.{decimal-whole, decimal-most}
+use Rattle.text.proofs.PrintLaws.{decimal_whole, decimal_most}
 use Rattle.text.proofs.inner.put_decimal.Statement.{statement}
 use Rattle.text.proofs.inner.put_decimal.Tie as tie
 
@@ -12,10 +12,10 @@ digit-count-requires : tie.Need-digit-count-requires
 digit-count-requires c κs = search rules
 
 put-digits-requires : tie.Need-put-digits-requires
-put-digits-requires c κs = omega (arith, decimal-most c.before.before.before.args.x)
+put-digits-requires c κs = omega (arith, decimal_most c.before.before.before.args.x)
 
 add-result : tie.Need-overflow-add-result
-add-result c = omega (arith, decimal-most c.before.before.before.before.before.before.args.x)
+add-result c = omega (arith, decimal_most c.before.before.before.before.before.before.args.x)
 
 same_length : tie.Need-same-length
 same_length c = search rules
@@ -26,7 +26,7 @@ returns c =
     let count = c.before.before.before.before.digit-count in (
       ap (a.at +◌) count.ensures,
       c.before.before.put-digits.ensures
-          ∙ ap (written a.buf.now a.at) (decimal-whole a.x count.result count.ensures),
+          ∙ ap (written a.buf.now a.at) (decimal_whole a.x count.result count.ensures),
     )
 
 pub put-decimal-spec : {M : Type 1} → statement M

@@ -3,16 +3,16 @@ use mathlib.Core.Path.{◌≡◌, refl, sym, ◌∙◌, ap}
 use Prim.Native.Nat.{ℕ, ◌+◌, ◌-◌, ◌%◌, ◌≤◌}
 use native.Mathlib.Omega.{arith}
 use lib.ListN.{length, length-set}
-use Rattle.text.specs.Decimal.{digitsOf}
+use Rattle.text.specs.Decimal.{digits_of}
 use Rattle.text.specs.Written.{written}
 use Rattle.text.proofs.WrittenLaws.{written_none}
-use Rattle.text.proofs.PrintLaws.{digit-written}
+use Rattle.text.proofs.PrintLaws.{digit_written}
 use Rattle.text.proofs.inner.put_digits.Statement.{statement}
 use Rattle.text.proofs.inner.put_digits.Tie as tie
 
 abbrev invariant-loop : tie.invariant-loop
 invariant-loop buf₀ at count x rest₀ left₀ buf rest left =
-    (left ≤ count) × (length buf ≡ length buf₀) × (written buf at (digitsOf left rest) ≡ written buf₀ at (digitsOf count x))
+    (left ≤ count) × (length buf ≡ length buf₀) × (written buf at (digits_of left rest) ≡ written buf₀ at (digits_of count x))
 
 abbrev decreases-loop : tie.decreases-loop
 decreases-loop buf₀ at count x rest₀ left₀ buf rest left = left
@@ -44,20 +44,20 @@ loop-again c =
     let l = c.before.loop in (
       omega arith,
       length-set l.buf (a.at + (l.left - 1)) (48 + l.rest % 10) ∙ l.invariant.1,
-      digit-written l.buf a.at l.left l.rest (omega arith) (omega arith) ∙ l.invariant.2,
+      digit_written l.buf a.at l.left l.rest (omega arith) (omega arith) ∙ l.invariant.2,
     )
 
 same_length : tie.Need-same-length invariant-loop decreases-loop
 same_length c = omega arith
 
 returns : tie.Need-returns invariant-loop decreases-loop
-unfolding digitsOf
+unfolding digits_of
 returns c =
     let a = c.before.before.args in
     let l = c.before.loop in
     let none : l.left ≡ 0 = c.loop-test.false in
     sym (written_none l.buf a.at)
-    ∙ ap (λ (n : ℕ). written l.buf a.at (digitsOf n l.rest)) (sym none)
+    ∙ ap (λ (n : ℕ). written l.buf a.at (digits_of n l.rest)) (sym none)
     ∙ l.invariant.2
 
 pub put-digits-spec : {M : Type 1} → statement M

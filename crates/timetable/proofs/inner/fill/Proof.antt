@@ -5,8 +5,8 @@ use Prim.Native.Nat.{◌-◌}
 use native.Mathlib.Omega.{arith}
 use lib.ListN.{length}
 use borrow.Author.Rules.{rules}
-use Rattle.run.proofs.SlotLaws.{byte_high, plus-byte}
-use Rattle.timetable.proofs.FillLaws.{Ready, Filling, Passing, fill-starts, fill-chosen, fill-ready, fill-totals, fill_more, pass-starts, pass-sound, pass-fair, pass-counts, pass-moved-sound, pass-more, pass-done, done-state, done-bytes}
+use Rattle.run.proofs.SlotLaws.{byte_high, plus_byte}
+use Rattle.timetable.proofs.FillLaws.{Ready, Filling, Passing, fill_starts, fill_chosen, fill_ready, fill_totals, fill_more, pass_starts, pass_sound, pass_fair, pass_counts, pass_moved_sound, pass_more, pass_done, done_state, done_bytes}
 use Rattle.timetable.proofs.inner.fill.Statement.{statement}
 use Rattle.timetable.proofs.inner.fill.Tie as tie
 
@@ -33,19 +33,19 @@ slot-ready :
 slot-ready h =
     let outer = h.before.before.before in
     let start = outer.before.before.before.before.before.before in
-    fill-ready start.args.state start.requires.0 _ start.requires.1 outer.loop.invariant
+    fill_ready start.args.state start.requires.0 _ start.requires.1 outer.loop.invariant
 
 choose-requires : tie.Need-choose-requires invariant-loop2 decreases-loop2 invariant-loop decreases-loop
 choose-requires c κs = search rules
 
 loop-holds : tie.Need-loop-init invariant-loop2 decreases-loop2 invariant-loop decreases-loop
-loop-holds c = fill-starts _ _ c.choose.ensures
+loop-holds c = fill_starts _ _ c.choose.ensures
 
 nobody-requires : tie.Need-nobody-requires invariant-loop2 decreases-loop2 invariant-loop decreases-loop
 nobody-requires c κs = search rules
 
 loop2-holds : tie.Need-loop2-init invariant-loop2 decreases-loop2 invariant-loop decreases-loop
-loop2-holds c = pass-starts _ _ _ _ c.nobody.ensures
+loop2-holds c = pass_starts _ _ _ _ c.nobody.ensures
 
 mul-moved : tie.Need-overflow-mul-moved invariant-loop2 decreases-loop2 invariant-loop decreases-loop
 mul-moved c = let few = (slot-ready c.before).few in omega arith
@@ -56,7 +56,7 @@ array-copy-out-moved c = let few = (slot-ready c.before).few in omega arith
 moved-requires : tie.Need-moved-requires invariant-loop2 decreases-loop2 invariant-loop decreases-loop
 moved-requires c κs =
     let h = c.before.before in
-    (pass-sound _ _ _ _ (slot-ready h) h.loop2.invariant (omega arith), pass-fair _ _ _ _ (slot-ready h) h.loop2.invariant (omega arith))
+    (pass_sound _ _ _ _ (slot-ready h) h.loop2.invariant (omega arith), pass_fair _ _ _ _ (slot-ready h) h.loop2.invariant (omega arith))
 
 mul-places : tie.Need-overflow-mul-places invariant-loop2 decreases-loop2 invariant-loop decreases-loop
 mul-places c = let few = (slot-ready c.before.before.before.before).few in omega arith
@@ -70,7 +70,7 @@ cast-tagged c = search rules
 add-tagged : tie.Need-overflow-add-tagged invariant-loop2 decreases-loop2 invariant-loop decreases-loop
 add-tagged c =
     let h = c.before.before.before.before.before in
-    let counts = pass-counts _ _ _ _ (slot-ready h) h.loop2.invariant in
+    let counts = pass_counts _ _ _ _ (slot-ready h) h.loop2.invariant in
     omega (arith, byte_high c.before.before.moved.result.tagged)
 
 cast-short : tie.Need-overflow-cast-short invariant-loop2 decreases-loop2 invariant-loop decreases-loop
@@ -79,13 +79,13 @@ cast-short c = search rules
 add-short : tie.Need-overflow-add-short invariant-loop2 decreases-loop2 invariant-loop decreases-loop
 add-short c =
     let h = c.before.before.before.before.before.before in
-    let counts = pass-counts _ _ _ _ (slot-ready h) h.loop2.invariant in
+    let counts = pass_counts _ _ _ _ (slot-ready h) h.loop2.invariant in
     omega (arith, byte_high c.before.before.before.moved.result.short)
 
 better-requires : tie.Need-better-requires invariant-loop2 decreases-loop2 invariant-loop decreases-loop
 better-requires c κs =
     let h = c.before.before.before.before.before.before in
-    (pass-moved-sound _ _ _ _ (slot-ready h) h.loop2.invariant (omega arith) c.before.before.before.moved.ensures, h.loop2.invariant.best-small)
+    (pass_moved_sound _ _ _ _ (slot-ready h) h.loop2.invariant (omega arith) c.before.before.before.moved.ensures, h.loop2.invariant.best_small)
 
 add-i : tie.Need-overflow-add-i invariant-loop2 decreases-loop2 invariant-loop decreases-loop
 add-i c = let few = (slot-ready c.before.before.before.before.before.before.before).few in omega arith
@@ -97,13 +97,13 @@ loop2-again : tie.Need-loop2-preserved invariant-loop2 decreases-loop2 invariant
 loop2-again c =
     let h = c.before.before.before.before.before.before.before in
     let o = c.before.before.before.before.moved.result in
-    pass-more _ _ _ _ (slot-ready h) h.loop2.invariant (omega arith) c.before.before.before.before.moved.ensures c.better.ensures (plus-byte o.tagged _) (plus-byte o.short _)
+    pass_more _ _ _ _ (slot-ready h) h.loop2.invariant (omega arith) c.before.before.before.before.moved.ensures c.better.ensures (plus_byte o.tagged _) (plus_byte o.short _)
 
 byte-of-requires : tie.Need-byte-of-requires invariant-loop2 decreases-loop2 invariant-loop decreases-loop
 byte-of-requires c κs =
     let outer = c.before.before.before.before in
     let start = outer.before.before.before.before.before.before in
-    fill-chosen start.args.state start.requires.0 _ start.requires.1 outer.loop.invariant
+    fill_chosen start.args.state start.requires.0 _ start.requires.1 outer.loop.invariant
 
 slice-write-buf : tie.Need-slice-write-buf invariant-loop2 decreases-loop2 invariant-loop decreases-loop
 slice-write-buf c = let f = c.before.before.before.before.before.loop.invariant in omega arith
@@ -112,8 +112,8 @@ counted-requires : tie.Need-counted-requires invariant-loop2 decreases-loop2 inv
 counted-requires c κs =
     let outer = c.before.before.before.before.before in
     let start = outer.before.before.before.before.before.before in
-    let totals = fill-totals start.args.state start.requires.0 _ start.requires.1 outer.loop.invariant (omega arith) in
-    let counts = pass-counts _ _ _ _ (slot-ready c.before.before) c.before.before.loop2.invariant in
+    let totals = fill_totals start.args.state start.requires.0 _ start.requires.1 outer.loop.invariant (omega arith) in
+    let counts = pass_counts _ _ _ _ (slot-ready c.before.before) c.before.before.loop2.invariant in
     omega arith
 
 add-n : tie.Need-overflow-add-n invariant-loop2 decreases-loop2 invariant-loop decreases-loop
@@ -127,7 +127,7 @@ loop-again c =
     let outer = c.before.before.before.before.before.before in
     let start = outer.before.before.before.before.before.before in
     fill_more start.args.state start.requires.0 _ start.requires.1 outer.loop.invariant (omega arith)
-    (pass-done c.before.before.before.loop2.invariant (let p = c.before.before.before.loop2.invariant in omega arith)) c.before.byte_of.ensures c.counted.ensures
+    (pass_done c.before.before.before.loop2.invariant (let p = c.before.before.before.loop2.invariant in omega arith)) c.before.byte_of.ensures c.counted.ensures
 
 cast-next : tie.Need-overflow-cast-next invariant-loop2 decreases-loop2 invariant-loop decreases-loop
 cast-next c =
@@ -147,7 +147,7 @@ returns c =
     let f = c.before.before.loop.invariant in
     let s = c.before.before.before.before.before.before.before.before.args.state in
     let all : c.before.before.loop.n ≡ length c.before.before.before.before.before.before.before.before.args.buf.now = omega arith in
-    (done-state s f all, done-bytes s f all)
+    (done_state s f all, done_bytes s f all)
 
 pub fill_spec : {M : Type 1} → statement M
 fill_spec =

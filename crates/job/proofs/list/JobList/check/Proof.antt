@@ -5,14 +5,14 @@ use Prim.Native.Nat.{◌-◌, ◌≤◌}
 use native.Mathlib.Omega.{arith}
 use borrow.Author.Rules.{rules}
 use borrow.Author.Tests.{eq-eqb, ne_eqb, lt-ltb}
-use Rattle.job.specs.Told.{toldChecked, passed}
-use Rattle.job.specs.Check.{jobsTold}
-use Rattle.job.proofs.CheckLaws.{no-job-told, one_more, by_count, by-jobs, found}
+use Rattle.job.specs.Told.{told_checked, passed}
+use Rattle.job.specs.Check.{jobs_told}
+use Rattle.job.proofs.CheckLaws.{no_job_told, one_more, by_count, by_jobs, found}
 use Rattle.job.proofs.list.JobList.check.Statement.{statement}
 use Rattle.job.proofs.list.JobList.check.Tie as tie
 
 abbrev invariant-loop : tie.invariant-loop
-invariant-loop self count at₀ at = (at ≤ self.count) × (jobsTold self.jobs at ≡ passed)
+invariant-loop self count at₀ at = (at ≤ self.count) × (jobs_told self.jobs at ≡ passed)
 
 abbrev decreases-loop : tie.decreases-loop
 decreases-loop self count at₀ at = self.count - at
@@ -24,7 +24,7 @@ returns-2 : tie.Need-returns-2 invariant-loop decreases-loop
 returns-2 c = sym (by_count _ false true (ne_eqb _ _ c.before.if1.false) (lt-ltb _ _ c.if2.true))
 
 loop-holds : tie.Need-loop-init invariant-loop decreases-loop
-loop-holds c = (omega arith, no-job-told c.before.before.args.t1.jobs)
+loop-holds c = (omega arith, no_job_told c.before.before.args.t1.jobs)
 
 mul-job : tie.Need-overflow-mul-job invariant-loop decreases-loop
 mul-job c = search rules
@@ -41,7 +41,7 @@ enum_told c = search rules
 returns-3 : tie.Need-returns-3 invariant-loop decreases-loop
 returns-3 c =
     let refused = c.enum_told.given in
-    let same = ap toldChecked refused.1 in
+    let same = ap told_checked refused.1 in
     same
     ∙ sym
     (found c.before.before.before.before.before.before.before.before.args.t1 (omega arith) (omega arith) c.before.before.before.before.before.loop.at refused.0.0 (omega arith) c.before.before.before.before.before.loop.invariant.1
@@ -61,14 +61,14 @@ loop-again c = (
   omega arith,
   one_more c.before.before.before.before.before.before.before.before.args.t1.jobs c.before.before.before.before.before.loop.at c.before.before.before.before.before.loop.invariant.1
       ∙ sym c.before.before.check.ensures
-      ∙ ap toldChecked c.enum-told2.given.1,
+      ∙ ap told_checked c.enum-told2.given.1,
 )
 
 returns-4 : tie.Need-returns-4 invariant-loop decreases-loop
 returns-4 c =
     let l = c.before.before.before.before.args.t1 in
     let all : c.before.loop.at ≡ l.count = omega arith in
-    sym (by-jobs l (omega arith) (omega arith) ∙ rw all at c.before.loop.invariant.1)
+    sym (by_jobs l (omega arith) (omega arith) ∙ rw all at c.before.loop.invariant.1)
 
 pub check-spec : {M : Type 1} → statement M
 check-spec =

@@ -6,17 +6,17 @@ use Prim.Native.Nat.{ℕ}
 use borrow.Author.Rules.{rules}
 use borrow.Author.Tests.{not-true, not-false}
 use Rattle.job.specs.declared.record.Job.{Job}
-use Rattle.job.specs.Limit.{tMost, kMost}
+use Rattle.job.specs.Limit.{t_most, k_most}
 use Rattle.job.specs.Told.{row, passed}
-use Rattle.job.specs.Check.{allowed, jobTold}
+use Rattle.job.specs.Check.{allowed, job_told}
 use Rattle.job.proofs.record.Job.check.Statement.{statement}
 use Rattle.job.proofs.record.Job.check.Tie as tie
 
 by_tests :
-    (i : ℕ) (j : Job) (t c k m : Bool) → allowed j.t tMost ≡ t → allowed j.c j.t ≡ c → allowed j.k kMost ≡ k
+    (i : ℕ) (j : Job) (t c k m : Bool) → allowed j.t t_most ≡ t → allowed j.c j.t ≡ c → allowed j.k k_most ≡ k
     → allowed j.m j.k ≡ m
-    → cond t (cond c (cond k (cond m passed (row 6 (i ∷ []))) (row 5 (i ∷ []))) (row 4 (i ∷ []))) (row 3 (i ∷ [])) ≡ jobTold i j
-unfolding jobTold
+    → cond t (cond c (cond k (cond m passed (row 6 (i ∷ []))) (row 5 (i ∷ []))) (row 4 (i ∷ []))) (row 3 (i ∷ [])) ≡ job_told i j
+unfolding job_told
 by_tests i j t c k m et ec ek em = simp (et, ec, ek, em)
 
 no : {r t : Bool} → r ≡ t → not r ≡ true → t ≡ false

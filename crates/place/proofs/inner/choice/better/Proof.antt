@@ -6,28 +6,28 @@ use borrow.Author.Rules.{rules}
 use Rattle.place.specs.declared.setting.Setting.{Setting}
 use Rattle.place.specs.declared.record.Place.{Place}
 use Rattle.place.specs.declared.inner.choice.Held.{Held}
-use Rattle.place.specs.Place.{eligibleOf}
-use Rattle.place.specs.Choice.{takesSpare, candidateOf, dueAway, spareAway, distance_of, nearerOf, held_at, betterOf}
-use Rattle.place.proofs.BoundLaws.{due-small, spare-small}
+use Rattle.place.specs.Place.{eligible_of}
+use Rattle.place.specs.Choice.{takes_spare, candidate_of, due_away, spare_away, distance_of, nearer_of, held_at, better_of}
+use Rattle.place.proofs.BoundLaws.{due_small, spare_small}
 use Rattle.place.proofs.inner.choice.better.Statement.{statement}
 use Rattle.place.proofs.inner.choice.better.Tie as tie
 
 module _ (setting : Setting) (best : Held) (i : ℕ) (q : Place) where
   better-due :
-      eligibleOf setting q ≡ true
-      → cond (nearerOf (dueAway setting q) best.away) (held_at i (dueAway setting q)) best ≡ betterOf setting best i q
-  unfolding betterOf candidateOf distance_of
+      eligible_of setting q ≡ true
+      → cond (nearer_of (due_away setting q) best.away) (held_at i (due_away setting q)) best ≡ better_of setting best i q
+  unfolding better_of candidate_of distance_of
   better-due due = rw due
 
-  module _ (not-due : eligibleOf setting q ≡ false) where
+  module _ (not-due : eligible_of setting q ≡ false) where
     better-spare :
-        takesSpare setting q ≡ true
-        → cond (nearerOf (spareAway q) best.away) (held_at i (spareAway q)) best ≡ betterOf setting best i q
-    unfolding betterOf candidateOf distance_of
+        takes_spare setting q ≡ true
+        → cond (nearer_of (spare_away q) best.away) (held_at i (spare_away q)) best ≡ better_of setting best i q
+    unfolding better_of candidate_of distance_of
     better-spare spare = rw (not-due, spare)
 
-    better-none : takesSpare setting q ≡ false → best ≡ betterOf setting best i q
-    unfolding betterOf candidateOf
+    better-none : takes_spare setting q ≡ false → best ≡ better_of setting best i q
+    unfolding better_of candidate_of
     better-none none = rw (not-due, none)
 
 eligible-requires : tie.Need-eligible-requires
@@ -39,7 +39,7 @@ due-away-requires c κs = (c.before.before.requires.0, sym c.before.eligible.ens
 nearest-requires : tie.Need-nearest-requires
 nearest-requires c κs =
     let start = c.before.before.before in
-    (rw c.due-away.ensures (due-small start.requires.0), start.requires.1)
+    (rw c.due-away.ensures (due_small start.requires.0), start.requires.1)
 
 returns : tie.Need-returns
 returns c =
@@ -56,7 +56,7 @@ spare-away-requires c κs = search rules
 nearest-requires-2 : tie.Need-nearest-requires-2
 nearest-requires-2 c κs =
     let start = c.before.before.before.before.before in
-    (rw c.spare-away.ensures (spare-small start.requires.0), start.requires.1)
+    (rw c.spare-away.ensures (spare_small start.requires.0), start.requires.1)
 
 returns-2 : tie.Need-returns-2
 returns-2 c =

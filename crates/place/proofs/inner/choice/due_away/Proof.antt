@@ -4,8 +4,8 @@ use native.Mathlib.Omega.{arith}
 use borrow.Author.Rules.{rules}
 use borrow.Author.Tests.{eq-eqb, ne_eqb}
 use mir.Facts.{to_z-of_z}
-use Rattle.place.specs.Choice.{dueAway}
-use Rattle.place.proofs.BoundLaws.{numerator-fits}
+use Rattle.place.specs.Choice.{due_away}
+use Rattle.place.proofs.BoundLaws.{numerator_fits}
 use Rattle.place.proofs.inner.choice.due_away.Statement.{statement}
 use Rattle.place.proofs.inner.choice.due_away.Tie as tie
 
@@ -19,11 +19,11 @@ cast-den : tie.Need-overflow-cast-den
 cast-den c = search rules
 
 returns : tie.Need-returns
-unfolding dueAway
+unfolding due_away
 returns c =
     let start = c.before.before.before.before in
     let e : start.args.setting.order ≡ 0 = omega arith in
-    simp (eq-eqb start.args.setting.order 0 e, c.owed.ensures, c.before.numerator.ensures, to_z-of_z (numerator-fits start.requires.0))
+    simp (eq-eqb start.args.setting.order 0 e, c.owed.ensures, c.before.numerator.ensures, to_z-of_z (numerator_fits start.requires.0))
 
 left-requires : tie.Need-left-requires
 left-requires c κs = search rules
@@ -32,7 +32,7 @@ ratio-requires : tie.Need-ratio-requires
 ratio-requires c κs = search rules
 
 returns-2 : tie.Need-returns-2
-unfolding dueAway
+unfolding due_away
 returns-2 c =
     let start = c.before.before.before.before in
     let n : start.args.setting.order ≡ 0 → ⊥ = omega arith in

@@ -1,7 +1,7 @@
 -- `spare_away` meets its contract. Assumes nothing.
 use native.Mathlib.Omega.{arith}
 use borrow.Author.Rules.{rules}
-use Rattle.place.proofs.BoundLaws.{left-high}
+use Rattle.place.proofs.BoundLaws.{left_high}
 use Rattle.place.proofs.inner.choice.spare_away.Statement.{statement}
 use Rattle.place.proofs.inner.choice.spare_away.Tie as tie
 
@@ -9,7 +9,7 @@ left-requires : tie.Need-left-requires
 left-requires c κs = search rules
 
 add-ratio : tie.Need-overflow-add-ratio
-add-ratio c = omega (arith, c.left.ensures, left-high c.before.requires)
+add-ratio c = omega (arith, c.left.ensures, left_high c.before.requires)
 
 ratio-requires : tie.Need-ratio-requires
 ratio-requires c κs = search rules

@@ -4,16 +4,16 @@ use lib.Dec.{eqb}
 use borrow.Author.Rules.{rules}
 use Rattle.job.specs.declared.record.Job.{Job}
 use Rattle.job.specs.declared.refusal.Checked.{Checked}
-use Rattle.job.specs.Told.{Told, toldChecked}
-use Rattle.job.specs.Check.{jobTold}
-use Rattle.job.proofs.ToldLaws.{told-refuses}
-use Rattle.place.specs.Range.{jobPasses}
+use Rattle.job.specs.Told.{Told, told_checked}
+use Rattle.job.specs.Check.{job_told}
+use Rattle.job.proofs.ToldLaws.{told_refuses}
+use Rattle.place.specs.Range.{job_passes}
 use Rattle.place.proofs.inner.range.job_passes.Statement.{statement}
 use Rattle.place.proofs.inner.range.job_passes.Tie as tie
 
-by : (j : Job) {r v : Checked} → toldChecked r ≡ jobTold 0 j → r ≡ v → eqb (toldChecked v).number 0 ≡ jobPasses j
-unfolding jobPasses
-by j told is = ap (λ (t : Told). eqb t.number 0) (ap toldChecked (sym is) ∙ told)
+by : (j : Job) {r v : Checked} → told_checked r ≡ job_told 0 j → r ≡ v → eqb (told_checked v).number 0 ≡ job_passes j
+unfolding job_passes
+by j told is = ap (λ (t : Told). eqb t.number 0) (ap told_checked (sym is) ∙ told)
 
 check-requires : tie.Need-check-requires
 check-requires c κs = search rules
@@ -30,7 +30,7 @@ returns c = by c.before.before.before.args.job c.before.before.check.ensures c.e
 returns-2 : tie.Need-returns-2
 returns-2 c =
     let refused = c.enum-told2.given in
-    sym (told-refuses refused.0.0) ∙ by c.before.before.before.args.job c.before.before.check.ensures refused.1
+    sym (told_refuses refused.0.0) ∙ by c.before.before.before.args.job c.before.before.check.ensures refused.1
 
 pub job-passes-spec : {M : Type 1} → statement M
 job-passes-spec = tie.close (tie.spec check-requires enum_told enum-told-2 returns returns-2)

@@ -1,7 +1,7 @@
 -- `service_in_range` meets its contract, however service is kept. Assumes nothing.
 use mathlib.Core.Path.{sym, ◌∙◌}
 use borrow.Author.Rules.{rules}
-use Rattle.place.specs.Range.{serviceInRange}
+use Rattle.place.specs.Range.{service_in_range}
 use Rattle.place.proofs.inner.range.service_in_range.Statement.{statement}
 use Rattle.place.proofs.inner.range.service_in_range.Tie as tie
 
@@ -15,7 +15,7 @@ units-in-range-requires : tie.Need-units-in-range-requires
 units-in-range-requires c κs = search rules
 
 returns : tie.Need-returns
-unfolding serviceInRange
+unfolding service_in_range
 returns c =
     simp (c.before.within-m.ensures, c.units-in-range.ensures, sym c.before.before.before.by_units.ensures ∙ c.before.before.if1.true)
 
@@ -26,7 +26,7 @@ instances-in-range-requires : tie.Need-instances-in-range-requires
 instances-in-range-requires c κs = search rules
 
 returns-2 : tie.Need-returns-2
-unfolding serviceInRange
+unfolding service_in_range
 returns-2 c =
     simp (c.before.within-m2.ensures, c.instances-in-range.ensures, sym c.before.before.before.by_units.ensures ∙ c.before.before.if1.false)
 

@@ -1,6 +1,6 @@
 -- `within_m` meets its contract. Assumes nothing.
 use borrow.Author.Rules.{rules}
-use Rattle.place.specs.Range.{withinM}
+use Rattle.place.specs.Range.{within_m}
 use Rattle.place.proofs.inner.range.within_m.Statement.{statement}
 use Rattle.place.proofs.inner.range.within_m.Tie as tie
 
@@ -8,7 +8,7 @@ at-most-requires : tie.Need-at-most-requires
 at-most-requires c κs = search rules
 
 returns : tie.Need-returns
-unfolding withinM
+unfolding within_m
 returns c = simp c.before.before.at_most.ensures
 
 pub within-m-spec : {M : Type 1} → statement M

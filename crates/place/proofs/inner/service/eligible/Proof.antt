@@ -8,8 +8,8 @@ use native.Mathlib.Omega.{arith}
 use lib.Dec.{ltb}
 use borrow.Author.Rules.{rules}
 use borrow.Author.Tests.{ltb-true, ltb-false, lt-ltb, le-ltb}
-use Rattle.place.specs.Place.{eligibleOf}
-use Rattle.place.proofs.BoundLaws.{mc-high, pc-high}
+use Rattle.place.specs.Place.{eligible_of}
+use Rattle.place.proofs.BoundLaws.{mc_high, pc_high}
 use Rattle.place.proofs.inner.service.eligible.Statement.{statement}
 use Rattle.place.proofs.inner.service.eligible.Tie as tie
 
@@ -35,10 +35,10 @@ by-units-requires c κs = search rules
 mul-result : tie.Need-overflow-mul-result
 mul-result c =
     let sound = c.before.before.before.before.before.before.requires in
-    ⊎_elim (λ w. rw w.1 (omega (arith, pc-high sound))) (λ w. rw w.1 (omega (arith, mc-high sound))) c.before.before.if2.branch
+    ⊎_elim (λ w. rw w.1 (omega (arith, pc_high sound))) (λ w. rw w.1 (omega (arith, mc_high sound))) c.before.before.if2.branch
 
 returns : tie.Need-returns
-unfolding eligibleOf
+unfolding eligible_of
 returns c =
     let start = c.before.before.before.before.before.before.before in
     let q = start.args.q in
@@ -49,7 +49,7 @@ returns c =
     c.before.before.before.if2.branch)
 
 returns-2 : tie.Need-returns-2
-unfolding eligibleOf
+unfolding eligible_of
 returns-2 c = simp (sym c.before.before.before.by_units.ensures ∙ c.before.before.if1.false)
 
 pub eligible-spec : {M : Type 1} → statement M

@@ -4,8 +4,8 @@ use mathlib.Core.Logic.{⊎_elim}
 use native.Mathlib.Nat.{mod-lt}
 use native.Mathlib.Omega.{arith}
 use borrow.Author.Rules.{rules}
-use Rattle.place.specs.Place.{finishesOf}
-use Rattle.place.proofs.CycleLaws.{ends-at}
+use Rattle.place.specs.Place.{finishes_of}
+use Rattle.place.proofs.CycleLaws.{ends_at_lem}
 use Rattle.place.proofs.inner.service.finishes.Statement.{statement}
 use Rattle.place.proofs.inner.service.finishes.Tie as tie
 
@@ -20,16 +20,16 @@ add-result c =
     let sound = c.before.before.before.requires in
     let q = c.before.before.before.args.q in
     ⊎_elim (λ w. rw w.2 (omega (arith, mod-lt q.at.u sound.job.c.low)))
-    (λ w. rw w.1 (let r = sound.service.by-instances (sym c.before.before.by_units.ensures ∙ w.0.left) in omega arith))
+    (λ w. rw w.1 (let r = sound.service.by_instances (sym c.before.before.by_units.ensures ∙ w.0.left) in omega arith))
     c.before.if1.branch
 
 returns : tie.Need-returns
-unfolding finishesOf
+unfolding finishes_of
 returns c =
     let sound = c.before.before.before.before.requires in
     let q = c.before.before.before.before.args.q in
     let units = c.before.before.before.by_units.ensures in
-    ⊎_elim (λ w. rw (w.2, sym units ∙ w.0.taken) (ends-at q.job.c q.at.u sound.job.c.low))
+    ⊎_elim (λ w. rw (w.2, sym units ∙ w.0.taken) (ends_at_lem q.job.c q.at.u sound.job.c.low))
     (λ w. rw (w.1, sym units ∙ w.0.left))
     c.before.before.if1.branch
 

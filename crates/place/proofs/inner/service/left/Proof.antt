@@ -4,7 +4,7 @@ use Prim.Native.Nat.{ℕ, ◌-◌}
 use native.Mathlib.Omega.{arith}
 use borrow.Author.Rules.{rules}
 use Rattle.place.specs.Place.{left_of}
-use Rattle.place.proofs.BoundLaws.{window-low}
+use Rattle.place.proofs.BoundLaws.{window_low}
 use Rattle.place.proofs.inner.service.left.Statement.{statement}
 use Rattle.place.proofs.inner.service.left.Tie as tie
 
@@ -12,7 +12,7 @@ window-left-requires : tie.Need-window-left-requires
 window-left-requires c κs = search rules
 
 sub-result : tie.Need-overflow-sub-result
-sub-result c = omega (arith, c.before.window-left.ensures, window-low c.before.before.requires)
+sub-result c = omega (arith, c.before.window-left.ensures, window_low c.before.before.requires)
 
 returns : tie.Need-returns
 unfolding left_of

@@ -1,7 +1,7 @@
 -- `passed` meets its contract: the place stays sound under the service. Assumes nothing.
 use borrow.Author.Rules.{rules}
-use Rattle.place.specs.Place.{passedOf}
-use Rattle.place.proofs.PlaceLaws.{given-sound}
+use Rattle.place.specs.Place.{passed_of}
+use Rattle.place.proofs.PlaceLaws.{given_sound}
 use Rattle.place.proofs.inner.service.passed.Statement.{statement}
 use Rattle.place.proofs.inner.service.passed.Tie as tie
 
@@ -11,15 +11,15 @@ given-requires c κs = search rules
 is-short-requires : tie.Need-is-short-requires
 is-short-requires c κs =
     let pre = c.before.requires in
-    rw c.given.ensures (given-sound pre.0 _ pre.1)
+    rw c.given.ensures (given_sound pre.0 _ pre.1)
 
 turned-requires : tie.Need-turned-requires
 turned-requires c κs =
     let pre = c.before.before.requires in
-    rw c.before.given.ensures (given-sound pre.0 _ pre.1)
+    rw c.before.given.ensures (given_sound pre.0 _ pre.1)
 
 returns : tie.Need-returns
-unfolding passedOf
+unfolding passed_of
 returns c = simp (c.turned.ensures, c.before.is-short.ensures, c.before.before.given.ensures)
 
 pub passed-spec : {M : Type 1} → statement M

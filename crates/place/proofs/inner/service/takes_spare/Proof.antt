@@ -2,8 +2,8 @@
 use mathlib.Core.Path.{sym, ◌∙◌}
 use native.Mathlib.Omega.{arith}
 use borrow.Author.Rules.{rules}
-use Rattle.place.specs.Choice.{roomOf, takesSpare}
-use Rattle.place.proofs.BoundLaws.{pc-high, spare-is}
+use Rattle.place.specs.Choice.{room_of, takes_spare}
+use Rattle.place.proofs.BoundLaws.{pc_high, spare_is}
 use Rattle.place.proofs.inner.service.takes_spare.Statement.{statement}
 use Rattle.place.proofs.inner.service.takes_spare.Tie as tie
 
@@ -11,24 +11,24 @@ by-units-requires : tie.Need-by-units-requires
 by-units-requires c κs = search rules
 
 mul-result : tie.Need-overflow-mul-result
-mul-result c = omega (arith, pc-high c.before.before.before.before.requires.0)
+mul-result c = omega (arith, pc_high c.before.before.before.before.requires.0)
 
 returns : tie.Need-returns
-unfolding roomOf
+unfolding room_of
 returns c =
     let on = c.before.before.before.before in
     rw (sym c.before.before.before.by_units.ensures ∙ c.before.before.if2.true) at
-    (spare-is on.before.requires.0 on.before.requires.1 on.if1.true)
+    (spare_is on.before.requires.0 on.before.requires.1 on.if1.true)
 
 returns-2 : tie.Need-returns-2
-unfolding roomOf
+unfolding room_of
 returns-2 c =
     let on = c.before.before.before.before in
     rw (sym c.before.before.before.by_units.ensures ∙ c.before.before.if2.false) at
-    (spare-is on.before.requires.0 on.before.requires.1 on.if1.true)
+    (spare_is on.before.requires.0 on.before.requires.1 on.if1.true)
 
 returns-3 : tie.Need-returns-3
-unfolding takesSpare
+unfolding takes_spare
 returns-3 c = simp c.if1.false
 
 pub takes-spare-spec : {M : Type 1} → statement M

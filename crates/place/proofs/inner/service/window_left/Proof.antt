@@ -2,8 +2,8 @@
 use mathlib.Core.Path.{refl}
 use native.Mathlib.Omega.{arith}
 use borrow.Author.Rules.{rules}
-use Rattle.place.specs.Place.{windowLeft}
-use Rattle.place.proofs.BoundLaws.{window-high}
+use Rattle.place.specs.Place.{window_left}
+use Rattle.place.proofs.BoundLaws.{window_high}
 use Rattle.place.proofs.inner.service.window_left.Statement.{statement}
 use Rattle.place.proofs.inner.service.window_left.Tie as tie
 
@@ -14,11 +14,11 @@ add-result : tie.Need-overflow-add-result
 add-result c = search rules
 
 mul-result : tie.Need-overflow-mul-result
-unfolding windowLeft
-mul-result c = omega (arith, window-high c.before.before.requires)
+unfolding window_left
+mul-result c = omega (arith, window_high c.before.before.requires)
 
 returns : tie.Need-returns
-unfolding windowLeft
+unfolding window_left
 returns c = refl
 
 pub window-left-spec : {M : Type 1} → statement M

@@ -5,15 +5,15 @@ use native.Mathlib.Omega.{arith}
 use borrow.Author.Rules.{rules}
 use Rattle.place.specs.declared.inner.choice.Held.{Held}
 use Rattle.place.specs.Choice.{SmallHeld}
-use Rattle.run.specs.Choice.{heldUpto, chosen_of}
-use Rattle.place.proofs.BoundLaws.{better-small, nobody-small}
-use Rattle.run.proofs.HereLaws.{job-sound}
-use Rattle.run.proofs.ChoiceLaws.{one-more-held}
+use Rattle.run.specs.Choice.{held_upto, chosen_of}
+use Rattle.place.proofs.BoundLaws.{better_small, nobody_small}
+use Rattle.run.proofs.HereLaws.{job_sound}
+use Rattle.run.proofs.ChoiceLaws.{one_more_held}
 use Rattle.run.proofs.inner.choice.choose.Statement.{statement}
 use Rattle.run.proofs.inner.choice.choose.Tie as tie
 
 abbrev invariant-loop : tie.invariant-loop
-invariant-loop state setting best₀ at₀ best at = (at ≤ state.count) × (best ≡ heldUpto setting state.places at) × SmallHeld best
+invariant-loop state setting best₀ at₀ best at = (at ≤ state.count) × (best ≡ held_upto setting state.places at) × SmallHeld best
 
 abbrev decreases-loop : tie.decreases-loop
 decreases-loop state setting best₀ at₀ best at = state.count - at
@@ -22,8 +22,8 @@ nobody-requires : tie.Need-nobody-requires invariant-loop decreases-loop
 nobody-requires c κs = search rules
 
 loop-holds : tie.Need-loop-init invariant-loop decreases-loop
-unfolding heldUpto
-loop-holds c = (omega arith, c.nobody.ensures, rw c.nobody.ensures nobody-small)
+unfolding held_upto
+loop-holds c = (omega arith, c.nobody.ensures, rw c.nobody.ensures nobody_small)
 
 mul-better : tie.Need-overflow-mul-better invariant-loop decreases-loop
 mul-better c = search rules
@@ -33,7 +33,7 @@ element-copy-out-better c = search rules
 
 better-requires : tie.Need-better-requires invariant-loop decreases-loop
 better-requires c κs =
-    (job-sound c.before.before.before.before.before.requires _ c.before.loop-test.true, c.before.before.loop.invariant.2)
+    (job_sound c.before.before.before.before.before.requires _ c.before.loop-test.true, c.before.before.loop.invariant.2)
 
 add_at : tie.Need-overflow-add-at invariant-loop decreases-loop
 add_at c = search rules
@@ -45,10 +45,10 @@ loop-again : tie.Need-loop-preserved invariant-loop decreases-loop
 loop-again c =
     let start = c.before.before.before.before.before.before in
     let inv = c.before.before.before.loop.invariant in
-    let sound = job-sound start.requires _ c.before.before.loop-test.true in (
+    let sound = job_sound start.requires _ c.before.before.loop-test.true in (
       omega arith,
-      one-more-held start.args.t1.setting start.args.t1.places c.before.before.before.loop.at inv.1 c.better.ensures,
-      rw c.better.ensures (better-small _ sound inv.2 _),
+      one_more_held start.args.t1.setting start.args.t1.places c.before.before.before.loop.at inv.1 c.better.ensures,
+      rw c.better.ensures (better_small _ sound inv.2 _),
     )
 
 returns : tie.Need-returns invariant-loop decreases-loop
@@ -56,7 +56,7 @@ unfolding chosen_of
 returns c =
     let s = c.before.before.before.before.args.t1 in
     let all : c.before.loop.at ≡ s.count = omega arith in
-    ap (λ (h : Held). h.at) (c.before.loop.invariant.1 ∙ ap (λ (n : ℕ). heldUpto s.setting s.places n) all)
+    ap (λ (h : Held). h.at) (c.before.loop.invariant.1 ∙ ap (λ (n : ℕ). held_upto s.setting s.places n) all)
 
 pub choose_spec : {M : Type 1} → statement M
 choose_spec =

@@ -4,9 +4,9 @@ use Prim.Native.Nat.{◌-◌, ◌<◌}
 use native.Mathlib.Omega.{arith}
 use borrow.Author.Rules.{rules}
 use borrow.Author.Tests.{eqb-true}
-use Rattle.run.proofs.HereLaws.{job-sound}
-use Rattle.run.proofs.ChoiceLaws.{chosen-candidate}
-use Rattle.run.proofs.MovingLaws.{Moving, moving-starts, moving-bounded, moving-reads, moving-more, moving-done}
+use Rattle.run.proofs.HereLaws.{job_sound}
+use Rattle.run.proofs.ChoiceLaws.{chosen_candidate}
+use Rattle.run.proofs.MovingLaws.{Moving, moving_starts, moving_bounded, moving_reads, moving_more, moving_done}
 use Rattle.run.proofs.inner.slot.all_moved.Statement.{statement}
 use Rattle.run.proofs.inner.slot.all_moved.Tie as tie
 
@@ -17,7 +17,7 @@ abbrev decreases-loop : tie.decreases-loop
 decreases-loop state at all₀ one₀ i₀ all one i = state.count - i
 
 loop-holds : tie.Need-loop-init invariant-loop decreases-loop
-loop-holds c = moving-starts _ _
+loop-holds c = moving_starts _ _
 
 mul-moved : tie.Need-overflow-mul-moved invariant-loop decreases-loop
 mul-moved c = search rules
@@ -28,9 +28,9 @@ element-copy-out-moved c = search rules
 moved-requires : tie.Need-moved-requires invariant-loop decreases-loop
 moved-requires c κs =
     let start = c.before.before.before.before.before in
-    let reads = moving-reads c.before.before.before.loop.invariant in
+    let reads = moving_reads c.before.before.before.loop.invariant in
     let listed : c.before.before.before.loop.i < start.args.state.count = omega arith in
-    (rw reads (job-sound start.requires.0 _ listed), λ same. rw reads (chosen-candidate start.args.state _ (omega arith) (eqb-true _ _ same ∙ start.requires.1)))
+    (rw reads (job_sound start.requires.0 _ listed), λ same. rw reads (chosen_candidate start.args.state _ (omega arith) (eqb-true _ _ same ∙ start.requires.1)))
 
 mul-place : tie.Need-overflow-mul-place invariant-loop decreases-loop
 mul-place c = search rules
@@ -39,19 +39,19 @@ element-set-from-place : tie.Need-element-set-from-place invariant-loop decrease
 element-set-from-place c = search rules
 
 plus-if-requires : tie.Need-plus-if-requires invariant-loop decreases-loop
-plus-if-requires c κs = let b = moving-bounded c.before.before.before.before.before.loop.invariant (omega arith) in omega arith
+plus-if-requires c κs = let b = moving_bounded c.before.before.before.before.before.loop.invariant (omega arith) in omega arith
 
 plus-if-requires-2 : tie.Need-plus-if-requires-2 invariant-loop decreases-loop
-plus-if-requires-2 c κs = let b = moving-bounded c.before.before.before.before.before.before.loop.invariant (omega arith) in omega arith
+plus-if-requires-2 c κs = let b = moving_bounded c.before.before.before.before.before.before.loop.invariant (omega arith) in omega arith
 
 plus-if-requires-3 : tie.Need-plus-if-requires-3 invariant-loop decreases-loop
-plus-if-requires-3 c κs = let b = moving-bounded c.before.before.before.before.before.before.before.loop.invariant (omega arith) in omega arith
+plus-if-requires-3 c κs = let b = moving_bounded c.before.before.before.before.before.before.before.loop.invariant (omega arith) in omega arith
 
 plus-if-requires-4 : tie.Need-plus-if-requires-4 invariant-loop decreases-loop
-plus-if-requires-4 c κs = let b = moving-bounded c.before.before.before.before.before.before.before.before.loop.invariant (omega arith) in omega arith
+plus-if-requires-4 c κs = let b = moving_bounded c.before.before.before.before.before.before.before.before.loop.invariant (omega arith) in omega arith
 
 mul-one : tie.Need-overflow-mul-one invariant-loop decreases-loop
-mul-one c = let b = moving-bounded c.before.before.before.before.before.before.before.before.before.loop.invariant (omega arith) in omega arith
+mul-one c = let b = moving_bounded c.before.before.before.before.before.before.before.before.before.loop.invariant (omega arith) in omega arith
 
 add-i : tie.Need-overflow-add-i invariant-loop decreases-loop
 add-i c = search rules
@@ -61,7 +61,7 @@ loop-less c = search rules
 
 loop-again : tie.Need-loop-preserved invariant-loop decreases-loop
 loop-again c =
-    moving-more c.before.before.before.before.before.before.before.before.before.loop.invariant (omega arith)
+    moving_more c.before.before.before.before.before.before.before.before.before.loop.invariant (omega arith)
     c.before.before.before.before.before.moved.ensures
     c.before.before.before.plus-if.ensures
     c.before.before.plus-if2.ensures
@@ -69,7 +69,7 @@ loop-again c =
     c.plus-if4.ensures
 
 returns : tie.Need-returns invariant-loop decreases-loop
-returns c = moving-done c.before.before.loop.invariant (omega arith)
+returns c = moving_done c.before.before.loop.invariant (omega arith)
 
 pub all-moved-spec : {M : Type 1} → statement M
 all-moved-spec =

@@ -2,7 +2,7 @@
 use native.Mathlib.Omega.{arith}
 use borrow.Author.Rules.{rules}
 use Rattle.run.specs.Slot.{turn_of}
-use Rattle.run.proofs.MovingLaws.{all-bounded}
+use Rattle.run.proofs.MovingLaws.{all_bounded}
 use Rattle.run.proofs.inner.slot.turn.Statement.{statement}
 use Rattle.run.proofs.inner.slot.turn.Tie as tie
 
@@ -18,13 +18,13 @@ choice-of-requires c κs = search rules
 cast-t10 : tie.Need-overflow-cast-t10
 cast-t10 c =
     let start = c.before.before.before.before in
-    let b = all-bounded start.args.state _ start.requires.0.count.high c.before.before.all_moved.ensures in
+    let b = all_bounded start.args.state _ start.requires.0.count.high c.before.before.all_moved.ensures in
     omega arith
 
 cast-t11 : tie.Need-overflow-cast-t11
 cast-t11 c =
     let start = c.before.before.before.before.before in
-    let b = all-bounded start.args.state _ start.requires.0.count.high c.before.before.before.all_moved.ensures in
+    let b = all_bounded start.args.state _ start.requires.0.count.high c.before.before.before.all_moved.ensures in
     omega arith
 
 counted-requires : tie.Need-counted-requires

@@ -2,8 +2,8 @@
 use mathlib.Core.Path.{◌≡◌, sym}
 use lib.ListN.{length, length-map}
 use borrow.Author.Rules.{rules}
-use Rattle.job.specs.Limit.{countMost}
-use Rattle.run.specs.Range.{valuesInRange}
+use Rattle.job.specs.Limit.{count_most}
+use Rattle.run.specs.Range.{values_in_range}
 use Rattle.run.proofs.RangeLaws.{by_values}
 use Rattle.run.proofs.state.State.in_range.Statement.{statement}
 use Rattle.run.proofs.state.State.in_range.Tie as tie
@@ -18,9 +18,9 @@ totals-in-range-requires : tie.Need-totals-in-range-requires
 totals-in-range-requires c κs = search rules
 
 returns : tie.Need-returns
-unfolding valuesInRange
+unfolding values_in_range
 returns c =
-    let long : length c.before.before.before.before.before.before.args.self.places ≡ countMost = simp length-map at c.before.before.before.before.before.before.well-formed.0.1.1.1.1.1.0.1.0.1 in
+    let long : length c.before.before.before.before.before.before.args.self.places ≡ count_most = simp length-map at c.before.before.before.before.before.before.well-formed.0.1.1.1.1.1.0.1.0.1 in
     rw (c.before.before.before.before.before.allowed.ensures, c.before.places-in-range.ensures, c.totals-in-range.ensures) (sym (by_values c.before.before.before.before.before.before.args.self long))
 
 pub in-range-spec : {M : Type 1} → statement M

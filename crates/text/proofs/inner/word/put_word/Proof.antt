@@ -4,7 +4,7 @@ use native.Mathlib.Omega.{arith}
 use lib.ListN.{length-set}
 use borrow.Author.Rules.{rules}
 use Rattle.text.specs.Word.{word_bytes}
-use Rattle.text.proofs.WordLaws.{word-stored}
+use Rattle.text.proofs.WordLaws.{word_stored}
 use Rattle.text.proofs.inner.word.put_word.Statement.{statement}
 use Rattle.text.proofs.inner.word.put_word.Tie as tie
 
@@ -49,7 +49,7 @@ same_length c = search rules
 
 returns : tie.Need-returns
 unfolding word_bytes
-returns c = (refl, word-stored c.args.buf.now c.args.at c.args.x (omega arith))
+returns c = (refl, word_stored c.args.buf.now c.args.at c.args.x (omega arith))
 
 pub put-word-spec : {M : Type 1} → statement M
 put-word-spec =

@@ -1,16 +1,13 @@
 -- What an answer returns, by its variant; and an answer is determined by the paper's number and values.
-use mathlib.Core.Path.{◌≡◌, refl, ◌∙◌, ap, subst}
+use mathlib.Core.Path.{◌≡◌, refl, ◌∙◌, ap}
 use mathlib.Core.Bool.{false, cond}
-use mathlib.Core.List.{List, [], ◌∷◌}
+use mathlib.Core.List.{[], ◌∷◌}
 use Prim.Native.Nat.{ℕ}
 use lib.Dec.{eqb}
 use lib.ListN.{get_or}
-use types.Run.{OneOf, miss}
-use denote.Enum.Declared.{tag_of}
 use Rattle.job.specs.declared.refusal.Refusal.{Refusal}
 use Rattle.job.specs.declared.refusal.Refusal.TheVariants.{NoJobs, TooManyJobs, Period, Service, Window, Share, OriginalModel, CycleTooLong, Overload, StateOutOfRange, ClockAtLimit, BufferTooShort, SheetForm, JobBytes, OrderOrModel, SlotCount, SheetTooLong}
 use Rattle.job.specs.Told.{Told, told}
-use Rattle.job.specs.contracts.refusal.Refusal.{the_type}
 use Rattle.job.proofs.ToldLaws.{one_to_one, row_back, row_back_lem, told_refuses}
 use Rattle.admission.specs.declared.answer.Admission.{Admission}
 use Rattle.admission.specs.declared.answer.Admission.TheVariants.{Admitted, Refused}
@@ -37,16 +34,9 @@ others_return_none OrderOrModel k = refl
 others_return_none SlotCount k = refl
 others_return_none SheetTooLong k = refl
 
--- every variant but row 9's, as the code tells them apart
-abbrev pub others : List ℕ
-others = 0 ∷ 1 ∷ 2 ∷ 3 ∷ 4 ∷ 5 ∷ 6 ∷ 7 ∷ 9 ∷ 10 ∷ 11 ∷ 12 ∷ 13 ∷ 14 ∷ 15 ∷ 16 ∷ []
-
-pub not_overload : {r : Refusal} → OneOf others (tag_of the_type r) → (h d : ℕ) → r ≡ Overload h d → ⊥
-not_overload k h d same = miss others 8 tt (subst (λ (x : Refusal). OneOf others (tag_of the_type x)) same k)
-
 pub refused_otherwise :
-    {a : Admission} {r : Refusal} → a ≡ Refused r → OneOf others (tag_of the_type r) → returns_both (told_admission a) ≡ false
-refused_otherwise {r = r} e k = ap (λ (x : Admission). returns_both (told_admission x)) e ∙ others_return_none r (not_overload k)
+    {a : Admission} {r : Refusal} → a ≡ Refused r → ((h d : ℕ) → r ≡ Overload h d → ⊥) → returns_both (told_admission a) ≡ false
+refused_otherwise {r = r} e k = ap (λ (x : Admission). returns_both (told_admission x)) e ∙ others_return_none r k
 
 -- one of the two values, 0 where they are not returned
 value_returned :

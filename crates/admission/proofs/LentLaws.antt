@@ -1,20 +1,17 @@
--- How the gathering of a lent list goes on from record to record, and where it ends.
+-- How the gathering of a lent list goes on from record to record.
 use mathlib.Core.Path.{◌≡◌, refl}
-use mathlib.Core.Bool.{Bool, true, false, ◌&&◌}
+use mathlib.Core.Bool.{Bool, true, ◌&&◌}
 use mathlib.Core.List.{List}
-use mathlib.Core.WellFounded.InvImage
-use mathlib.Core.WellFounded.{WellFounded}
-use Prim.Native.Nat.{ℕ, suc, ◌-◌, ◌≤◌, ◌<◌, min}
+use Prim.Native.Nat.{ℕ, suc, ◌<◌}
 use lib.Dec.{ltb}
 use lib.ListN.{length}
-use lib.WfN.{lt-wf_rel}
 use Rattle.job.specs.declared.record.Job.{Job}
 use Rattle.job.specs.declared.list.JobList.{JobList}
 use Rattle.job.specs.Limit.{count_most}
 use Rattle.job.specs.Check.{job_at}
 use Rattle.job.specs.Filled.{filled_upto, empty_list, list_upto}
 use Rattle.admission.specs.Lent.{put_job}
-use Rattle.job.proofs.WalkLaws.{below_first, below_second, at_the_end}
+use Rattle.job.proofs.WalkLaws.{below_first, below_second}
 
 -- the list with the first n jobs of the slice put
 abbrev pub gather_upto : List Job → ℕ → JobList
@@ -34,14 +31,3 @@ goes_on i n = ltb i n && ltb i count_most
 
 pub goes_on_lem : (i n : ℕ) → goes_on i n ≡ true → (i < n) × (i < count_most)
 goes_on_lem i n e = (below_first i n count_most e, below_second i n count_most e)
-
--- where it first fails, all records that are wanted are there
-pub ends : (i n : ℕ) → i ≤ n → i ≤ count_most → goes_on i n ≡ false → i ≡ min n count_most
-ends i n within most e = at_the_end i n count_most e within most
-
--- each turn leaves fewer places
-abbrev pub Fewer : ℕ → ℕ → Type 0
-Fewer j i = count_most - j < count_most - i
-
-pub fewer_ends : WellFounded Fewer
-fewer_ends = InvImage.wf (λ (i : ℕ). count_most - i) lt-wf_rel.wf

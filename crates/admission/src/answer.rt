@@ -3,13 +3,13 @@ ghost use Rattle.admission.specs.Promise.{AdmissionNumberPromise, CyclePromise, 
 
 use job::Refusal;
 
-#[derive(Drop)]
+#[derive(Clone, Copy)]
 pub enum Admission {
     Admitted { cycle: u64, load: u64 },
     Refused(Refusal),
 }
 
-#[derive(Drop)]
+#[derive(Clone, Copy)]
 struct Amounts {
     cycle: u64,
     load: u64,

@@ -10,7 +10,7 @@ ghost use Rattle.admission.specs.Load.{share_of, load_of};
 use crate::divisor::common_divisor;
 use job::{Job, JobList};
 
-#[derive(Drop)]
+#[derive(Clone, Copy)]
 pub enum Cycle {
     Of(u64),
     TooLong,

@@ -1,4 +1,6 @@
 // Whether a list can be promised no short window: its common cycle, its load, and the verdict.
+#![tactic(auto)]
+
 mod answer;
 mod decide;
 pub mod divisor;

@@ -21,7 +21,7 @@ apart {n} {m} e f = eqb-false n m f (ap (λ (t : Told). t.number) e)
 pub valued : {n m x : ℕ} → row n (x ∷ []) ≡ row m [] → ⊥
 valued e = let lengths : ◌≡◌ {A = ℕ} 1 0 = ap (λ (t : Told). length t.values) e in omega arith
 
--- whatever has an inverse is one_to_one
+-- whatever has an inverse is one-to-one
 pub one_to_one {ℓ κ} : {A : Type ℓ} {B : Type κ} (f : A → B) (g : B → A) → ((a : A) → g (f a) ≡ a) → (a b : A) → f a ≡ f b → a ≡ b
 one_to_one f g inverse a b e = sym (inverse a) ∙ ap g e ∙ inverse b
 

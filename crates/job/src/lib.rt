@@ -1,5 +1,7 @@
 // What a club member writes down: a job, a list of them, and the one numbered refusal that is
 // the answer wherever a number is not allowed.
+#![tactic(auto)]
+
 mod list;
 mod record;
 mod refusal;

@@ -4,7 +4,7 @@ ghost use Rattle.job.specs.Promise.{EmptyPromise, ListCheckPromise};
 use crate::record::Job;
 use crate::refusal::{Checked, Refusal};
 
-#[derive(Drop)]
+#[derive(Clone, Copy)]
 pub struct JobList {
     pub jobs: [Job; JobList::COUNT_MOST],
     pub count: usize,

@@ -7,7 +7,7 @@ use crate::refusal::{Checked, Refusal};
 
 // Each number has 32 bits, so that the five digits of a sheet arrive whole and are refused by
 // the row that is theirs.
-#[derive(Drop)]
+#[derive(Clone, Copy)]
 pub struct Job {
     pub c: u32,
     pub t: u32,

@@ -1,7 +1,7 @@
 // The numbered refusals of document 01, every row once, with the values that the row names.
 ghost use Rattle.job.specs.Promise.{CheckedNumberPromise, RefusalNumberPromise};
 
-#[derive(Drop)]
+#[derive(Clone, Copy)]
 pub enum Refusal {
     // 1
     NoJobs,
@@ -40,7 +40,7 @@ pub enum Refusal {
 }
 
 // The answer of a check that has nothing to hand back.
-#[derive(Drop)]
+#[derive(Clone, Copy)]
 pub enum Checked {
     Passed,
     Refused(Refusal),

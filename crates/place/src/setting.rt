@@ -4,7 +4,7 @@ ghost use Rattle.place.specs.Promise.{MadePromise, AllowedPromise};
 
 use job::Job;
 
-#[derive(Drop)]
+#[derive(Clone, Copy)]
 pub struct Setting {
     pub order: u32,
     pub model: u32,

@@ -11,7 +11,7 @@ use crate::setting::Setting;
 use job::{Job, JobList};
 
 // The fraction num / den.
-#[derive(Drop)]
+#[derive(Clone, Copy)]
 pub struct Fraction {
     pub num: i64,
     pub den: u64,
@@ -23,7 +23,7 @@ impl Fraction {
 }
 
 // A place's number, and its distance from now.
-#[derive(Drop)]
+#[derive(Clone, Copy)]
 pub struct Held {
     pub at: usize,
     pub away: Fraction,

@@ -10,7 +10,7 @@ use crate::setting::Setting;
 use job::Job;
 
 // A place after the slot, and the sets that it goes into.
-#[derive(Drop)]
+#[derive(Clone, Copy)]
 pub struct Outcome {
     pub place: Place,
     pub tagged: bool,
@@ -18,7 +18,7 @@ pub struct Outcome {
 }
 
 // A place after a slot whose tag nobody asks for.
-#[derive(Drop)]
+#[derive(Clone, Copy)]
 pub struct Passage {
     pub place: Place,
     pub short: bool,

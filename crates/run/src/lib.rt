@@ -1,5 +1,7 @@
 // A run: its state, how it starts, and what one slot does to it, in both service models and both
 // orders.
+#![tactic(auto)]
+
 mod answer;
 pub mod inner;
 mod range;

@@ -5,7 +5,7 @@ use crate::range;
 use job::JobList;
 use place::{Place, Setting};
 
-#[derive(Drop)]
+#[derive(Clone, Copy)]
 pub struct Totals {
     pub given: u32,
     pub idle: u32,
@@ -13,7 +13,7 @@ pub struct Totals {
     pub shorts: u64,
 }
 
-#[derive(Drop)]
+#[derive(Clone, Copy)]
 pub struct State {
     pub setting: Setting,
     pub clock: u32,

@@ -2,7 +2,7 @@
 use job::{Checked, JobList};
 
 // The first slot in which a window of a job ends short.
-#[derive(Drop)]
+#[derive(Clone, Copy)]
 pub enum First {
     Never,
     Slot(u32),
@@ -10,7 +10,7 @@ pub enum First {
 
 // One job: the windows that a cycle has, how many of them end short, and the first slot in which
 // one does.
-#[derive(Drop)]
+#[derive(Clone, Copy)]
 pub struct Below {
     pub windows: u32,
     pub short: u32,
@@ -19,7 +19,7 @@ pub struct Below {
 
 // The answer for a list: `fallen` jobs fall below their part. Past the last job, and where the
 // list is refused, every number is 0 and the slot is never.
-#[derive(Drop)]
+#[derive(Clone, Copy)]
 pub struct Judgement {
     pub answer: Checked,
     pub fallen: usize,

@@ -11,7 +11,7 @@ use run::State;
 use run::inner::choice::choose;
 
 // The short windows of a job so far, and the slot of the first; 0 where there is none.
-#[derive(Drop)]
+#[derive(Clone, Copy)]
 pub struct Tally {
     pub short: u32,
     pub first: u32,

@@ -1,5 +1,7 @@
 // Which jobs of a list fall below their stated part, and how often: the answer of one cycle, which
 // is the answer for all time.
+#![tactic(auto)]
+
 mod answer;
 mod inner;
 mod judge;

@@ -1,4 +1,6 @@
 // The next choices of a run, written into the middle of a lent buffer.
+#![tactic(auto)]
+
 mod inner;
 mod writer;
 

@@ -6,7 +6,7 @@ use crate::inner::fill;
 use job::{Checked, Refusal};
 use run::State;
 
-#[derive(Drop)]
+#[derive(Clone, Copy)]
 pub struct Written {
     pub answer: Checked,
     pub state: State,

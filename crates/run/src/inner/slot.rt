@@ -13,14 +13,14 @@ use place::Place;
 use place::inner::choice::Held;
 use place::inner::service::moved;
 
-#[derive(Drop)]
+#[derive(Clone, Copy)]
 pub struct Turned {
     pub slot: Slot,
     pub state: State,
 }
 
 // The places after the slot; the masks of the two sets, and how many jobs each has.
-#[derive(Drop)]
+#[derive(Clone, Copy)]
 pub struct Outcomes {
     pub places: [Place; JobList::COUNT_MOST],
     pub tags: u32,

@@ -1,0 +1,24 @@
+use native.Mathlib.Omega.{arith}
+use Rattle.run.specs.Slot.{turn_of}
+use Rattle.run.proofs.MovingLaws.{all_bounded}
+use Rattle.run.proofs.inner.slot.turn.Goals as goal
+
+pub overflow_cast-slot : goal.overflow_cast-slot
+overflow_cast-slot c =
+    let b = all_bounded c.args.state _ c.requires.sound_state.count.high c.all_moved-all.ensures in
+    omega arith
+
+pub overflow_cast-slot-2 : goal.overflow_cast-slot-2
+overflow_cast-slot-2 c =
+    let b = all_bounded c.args.state _ c.requires.sound_state.count.high c.all_moved-all.ensures in
+    omega arith
+
+pub returns : goal.returns
+unfolding turn_of
+returns c =
+    simp (
+      c.counted-totals.ensures,
+      c.choice_of.ensures,
+      c.all_moved-all.ensures,
+      c.choose-at.ensures,
+    )

@@ -1,5 +1,7 @@
 // The lines that `slots` and `below` print, each written by one function into a lent buffer that
 // any of them fits.
+#![tactic(auto)]
+
 mod answer;
 mod below;
 mod parts;

@@ -1,4 +1,4 @@
--- Each public operation's promise allows one result: by one law for equations, and that `told` is one_to_one.
+-- Each public operation's promise allows one result: by one law for equations, and that `told` is one-to-one.
 use mathlib.Core.Path.{◌≡◌, sym, ◌∙◌}
 use mathlib.Core.List.{List}
 use Prim.Native.Nat.{ℕ}
@@ -20,7 +20,7 @@ use Rattle.promises.specs.Unique.{Unique, BothUnique, JobUnique, AdmissionUnique
 fixed : {A : Type 0} (x : A) → Unique (λ (r : A). r ≡ x)
 fixed x a b e f = e ∙ sym f
 
--- an answer fixed by what it tells, where telling is one_to_one
+-- an answer fixed by what it tells, where telling is one-to-one
 told_fixed :
     {A B : Type 0} (f : A → B) → ((a b : A) → f a ≡ f b → a ≡ b) → (x : B) → Unique (λ (r : A). f r ≡ x)
 told_fixed f injective x a b e g = injective a b (e ∙ sym g)

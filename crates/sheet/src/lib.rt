@@ -1,4 +1,6 @@
 // The text sheet: a setting, a slot count and a list of jobs, or the refusal with its place.
+#![tactic(auto)]
+
 mod reader;
 mod reading;
 

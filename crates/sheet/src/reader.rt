@@ -9,7 +9,7 @@ use job::{Job, JobList};
 // Fields: 0 the order's letter, 1 the model's, 2 the slot count, 3 to 6 C, T, m and k of a job,
 // 7 the letter S after the slot count.
 // `digits` bytes of the field are read, and `value` is what they say.
-#[derive(Drop)]
+#[derive(Clone, Copy)]
 pub struct Reader {
     pub field: u32,
     pub digits: u32,

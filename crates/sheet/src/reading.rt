@@ -8,14 +8,14 @@ use crate::reader::Reader;
 use job::{Checked, JobList, Refusal};
 use place::Setting;
 
-#[derive(Drop)]
+#[derive(Clone, Copy)]
 pub struct Sheet {
     pub setting: Setting,
     pub slots: u32,
     pub list: JobList,
 }
 
-#[derive(Drop)]
+#[derive(Clone, Copy)]
 pub struct ReadSheet {
     pub answer: Checked,
     pub sheet: Sheet,

@@ -5,8 +5,7 @@ use crate::jobs::list_from;
 use job::Refusal;
 
 // Tests 14, then those of admission. Returns 0 or the refusal's number.
-#[unsafe(no_mangle)]
-pub extern "C" fn filbertoss_admit(jobs: &[u8], model: u32) -> u32
+pub fn filbertoss_admit(jobs: &[u8], model: u32) -> u32
     ensures { AdmitEntryPromise jobs.now model result }
 {
     if jobs.len() % 6 != 0 {

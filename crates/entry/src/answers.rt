@@ -70,14 +70,7 @@ pub fn below(jobs: &[u8], setting: Setting, buf: &mut [u8]) -> u32
 }
 
 // 14 goes before 15, which is also for a `spare` that is not 0 or 1.
-#[unsafe(no_mangle)]
-pub extern "C" fn filbertoss_below(
-    jobs: &[u8],
-    order: u32,
-    model: u32,
-    spare: u32,
-    buf: &mut [u8],
-) -> u32
+pub fn filbertoss_below(jobs: &[u8], order: u32, model: u32, spare: u32, buf: &mut [u8]) -> u32
     ensures { BelowEntryPromise jobs.now order model spare buf.old result buf.new }
 {
     if jobs.len() % 6 != 0 {

@@ -25,8 +25,7 @@ pub fn fill(jobs: &[u8], setting: Setting, buf: &mut [u8], offset: usize, n: usi
 }
 
 // 'the C entry keeps spare off'.
-#[unsafe(no_mangle)]
-pub extern "C" fn filbertoss_fill(
+pub fn filbertoss_fill(
     jobs: &[u8],
     order: u32,
     model: u32,

@@ -1,5 +1,7 @@
 // The fill with spare on or off, for the benchmark and the comparisons alone. It is no part of the
 // C entries: 'the C entry keeps spare off'.
+#![tactic(auto)]
+
 ghost use Rattle.std.specs.Prelude.{not, eqb};
 ghost use Rattle.place.specs.Setting.{setting_of, with_spare};
 ghost use Rattle.entry.specs.Promise.{FillPromise};

@@ -1,13 +1,15 @@
 // The program: a sheet on standard input, and on standard output which of its jobs fall below their
 // stated part. Every line but `not judged` comes from a proved function; here they are only called
 // in order.
+#![tactic(auto)]
+
 ghost use Rattle.std.specs.Prelude.{◌≡◌, ◌+◌, ◌*◌, ◌≤◌, length};
 ghost use Rattle.job.specs.Limit.{count_most};
 
 use job::Checked;
-use libc::{STDIN_FILENO, STDOUT_FILENO};
 use sheet::Sheet;
 use shortfall::Judgement;
+use std::io;
 
 // A line for each job, from the place `at` of the buffer on.
 fn put_jobs(out: &mut [u8], at: usize, count: usize, judged: Judgement) -> usize
@@ -48,7 +50,7 @@ fn put_judged(out: &mut [u8], at: usize, count: usize, judged: Judgement) -> usi
 }
 
 // At most 18 lines of 192 bytes each: one buffer holds them all.
-fn print_judged(sheet: Sheet)
+fn print_judged(rt: &impl Print, sheet: Sheet) -> io::Result<()>
     requires { sheet.list.count ≤ count_most }
 {
     let mut out = [0u8; 4096];
@@ -59,20 +61,20 @@ fn print_judged(sheet: Sheet)
     let first = text::inner::put_text(&mut out, 0, &line[..n]);
     let judged = shortfall::shortfall(list, setting);
     let end = put_judged(&mut out, first, list.count, judged);
-    io::write_all(STDOUT_FILENO, &out[..end]);
+    rt.write_all(&out[..end])
 }
 
-fn main() {
+fn main(rt: HostRuntime) -> io::Result<()> {
     let mut bytes = [0u8; 4097];
-    let got = io::read_full(STDIN_FILENO, &mut bytes);
+    let got = input::read_full(&mut rt.stdin(), &mut bytes)?;
     let read = sheet::read(&bytes[..got]);
     let answer = read.answer;
     match answer {
-        Checked::Passed => print_judged(read.sheet),
+        Checked::Passed => print_judged(&rt, read.sheet),
         Checked::Refused(refusal) => {
             let mut line = [0u8; 192];
             let n = lines::refusal_line(&mut line, refusal);
-            io::write_all(STDOUT_FILENO, &line[..n]);
+            rt.write_all(&line[..n])
         }
     }
 }

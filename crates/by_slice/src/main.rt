@@ -1,7 +1,9 @@
 // The same lists by slice and by value: each line prints what admission answers of both.
+#![tactic(auto)]
+
 use admission::{Admission, admit_first, verdict};
 use job::{Job, JobList};
-use libc::STDOUT_FILENO;
+use std::io;
 
 // A job in the document's order, C T m k.
 fn job(c: u32, t: u32, m: u32, k: u32) -> Job {
@@ -25,75 +27,86 @@ fn list(first: Job, last: Job, count: usize) -> JobList {
     JobList { jobs, count }
 }
 
-fn print(text: &[u8]) {
-    io::write_all(STDOUT_FILENO, text);
+fn print(rt: &impl Print, text: &[u8]) -> io::Result<()> {
+    rt.write_all(text)
 }
 
-fn print_number(number: u64) {
-    io::print_decimal(STDOUT_FILENO, number);
+fn print_number(rt: &impl Print, number: u64) -> io::Result<()> {
+    rt.print(number)
 }
 
-fn print_answer(answer: Admission) {
-    print(b" row ");
-    print_number(answer.number() as u64);
-    print(b" cycle ");
-    print_number(answer.cycle());
-    print(b" load ");
-    print_number(answer.load());
+fn print_answer(rt: &impl Print, answer: Admission) -> io::Result<()> {
+    print(rt, b" row ")?;
+    print_number(rt, answer.number() as u64)?;
+    print(rt, b" cycle ")?;
+    print_number(rt, answer.cycle())?;
+    print(rt, b" load ")?;
+    print_number(rt, answer.load())
 }
 
-fn show(name: &[u8], first: Job, last: Job, count: usize, model: u32) {
+fn show(
+    rt: &impl Print,
+    name: &[u8],
+    first: Job,
+    last: Job,
+    count: usize,
+    model: u32,
+) -> io::Result<()> {
     let by_slice = admit_first(records(first, last), count, model);
     let by_value = verdict(list(first, last, count), model);
-    print(name);
-    print(b": by slice");
-    print_answer(by_slice);
-    print(b"; by value");
-    print_answer(by_value);
-    print(b"\n");
+    print(rt, name)?;
+    print(rt, b": by slice")?;
+    print_answer(rt, by_slice)?;
+    print(rt, b"; by value")?;
+    print_answer(rt, by_value)?;
+    print(rt, b"\n")
 }
 
-fn show_counts(first: Job, last: Job) {
-    show(b"0 records", first, last, 0, Job::RELAXED);
-    show(b"1 record", first, last, 1, Job::RELAXED);
-    show(b"16 records", first, last, 16, Job::RELAXED);
-    show(b"17 records", first, last, 17, Job::RELAXED);
-    show(b"40 records", first, last, 40, Job::RELAXED);
+fn show_counts(rt: &impl Print, first: Job, last: Job) -> io::Result<()> {
+    show(rt, b"0 records", first, last, 0, Job::RELAXED)?;
+    show(rt, b"1 record", first, last, 1, Job::RELAXED)?;
+    show(rt, b"16 records", first, last, 16, Job::RELAXED)?;
+    show(rt, b"17 records", first, last, 17, Job::RELAXED)?;
+    show(rt, b"40 records", first, last, 40, Job::RELAXED)
 }
 
-fn show_refusals(first: Job, last: Job, wrong: Job) {
+fn show_refusals(rt: &impl Print, first: Job, last: Job, wrong: Job) -> io::Result<()> {
     show(
+        rt,
         b"16 records, the first not allowed",
         wrong,
         last,
         16,
         Job::RELAXED,
-    );
+    )?;
     show(
+        rt,
         b"16 records, the last not allowed",
         first,
         wrong,
         16,
         Job::RELAXED,
-    );
+    )?;
     show(
+        rt,
         b"16 records, original model",
         first,
         last,
         16,
         Job::ORIGINAL,
-    );
-    show(b"40 records, model 2", first, last, 40, 2);
+    )?;
+    show(rt, b"40 records, model 2", first, last, 40, 2)
 }
 
-fn main() {
-    show_counts(job(1, 40, 1, 1), job(5, 90, 2, 3));
-    show_refusals(job(1, 40, 1, 1), job(5, 90, 2, 3), job(5, 90, 4, 3));
+fn main(rt: HostRuntime) -> io::Result<()> {
+    show_counts(&rt, job(1, 40, 1, 1), job(5, 90, 2, 3))?;
+    show_refusals(&rt, job(1, 40, 1, 1), job(5, 90, 2, 3), job(5, 90, 4, 3))?;
     show(
+        &rt,
         b"16 records, overload",
         job(40, 40, 1, 1),
         job(5, 90, 2, 3),
         16,
         Job::RELAXED,
-    );
+    )
 }

@@ -1,7 +1,7 @@
 /* Filbertoss: admission and timetables of window-constrained jobs, and which of them can fall below
  * their stated part, for ground tools in C and C++ and, as a shared library, in other languages.
  *
- * Link with libentry.a, which `rt staticlib entry` writes to target/staticlib/ (x86-64 Linux). For a
+ * Link with libentry.a, which `tools/build entry` writes to target/staticlib/ (x86-64 Linux). For a
  * shared library, take the archive whole:
  *     gcc -shared -Wl,-z,now,-soname,libfilbertoss.so -Wl,--whole-archive target/staticlib/libentry.a \
  *         -Wl,--no-whole-archive -o target/libfilbertoss.so
@@ -9,7 +9,7 @@
  * The three functions are proved to return what is said here, for all arguments that keep what the
  * caller owes (below). They keep nothing between calls and may be called from several threads at once.
  * Looked up in the archive, and not proved: they allocate nothing, have no static data, and need of the C
- * library memcpy and nothing else.
+ * library memcpy and memset and nothing else.
  *
  * A job is C (slots for one turn), T (slots in a period; each brings one turn), m and k. Its window is k
  * periods, k times T slots, the first from slot 0; it ends short if fewer than m turns were finished in
@@ -66,8 +66,8 @@
 
 /* Bytes of stack that a call needs: measured, not proved, and rounded up. filbertoss_below needs most,
  * filbertoss_fill less than two thirds of it, filbertoss_admit less than an eighth. That is with memcpy
- * bound: linked statically, or with -Wl,-z,now. Else the first call of the program also needs the stack
- * that the loader takes to look memcpy up, some kilobytes that depend on the processor. */
+ * and memset bound: linked statically, or with -Wl,-z,now. Else the first call of the program also needs
+ * the stack that the loader takes to look them up, some kilobytes that depend on the processor. */
 #define FILBERTOSS_STACK_BYTES 6144
 
 /* What a call returns: FILBERTOSS_OK, or the number of the first of its tests that fails; then no byte

@@ -1,6 +1,6 @@
 /* The stack that a call of each entry needs: it is made on a painted stack, and the lowest byte that has
  * changed tells how far down the call went. Lists of 0 to 17 jobs, every order, model and spare, answered
- * and refused. To be linked with -Wl,-z,now, so that the loader's lookup of memcpy is not counted.
+ * and refused. To be linked with -Wl,-z,now, so that the loader's lookup of memcpy and memset is not counted.
  *
  * Prints the most of each entry, and ends with status 1 if one is above what the header says.
  */

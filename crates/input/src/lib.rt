@@ -8,7 +8,8 @@ use std::io;
 use std::io::Read;
 
 // Reads until the buffer is full or the input ends, and answers how many bytes it put at the
-// buffer's start. An error is the read's: bytes read before may stand in the buffer.
+// buffer's start. An error is the read's: bytes read before may stand in the buffer. (What std has for
+// this puts the bytes into a `Vec`, on the heap.)
 pub fn read_full<R: Read>(from: &mut R, buf: &mut [u8]) -> io::Result<usize>
     ensures got_bound { IfOk result (λ got. got ≤ length buf.new) }
     ensures buf_len { length buf.new ≡ length buf.old }

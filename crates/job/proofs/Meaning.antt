@@ -3,6 +3,7 @@ use mathlib.Core.Path.{◌≡◌, refl, sym, ◌∙◌, ap, subst}
 use mathlib.Core.Bool.{Bool, true, false}
 use mathlib.Core.Logic.{◌↔◌, ◌⊎◌, inl, inr}
 use mathlib.Core.List.{List, [], ◌∷◌}
+use Rattle.std.specs.Prelude.{Ok, Err}
 use Prim.Native.Nat.{ℕ, zero, suc, ◌+◌, ◌≤◌, ◌<◌}
 use native.Mathlib.Numerals.{add-one}
 use native.Mathlib.Omega.{arith}
@@ -16,7 +17,7 @@ use Rattle.job.specs.Limit.{count_most, t_most, k_most}
 use Rattle.job.specs.Told.{Told, row, passed}
 use Rattle.job.specs.Check.{no_job, allowed, job_at, job_told, jobs_told, list_told}
 use Rattle.job.specs.Sound.{SoundJob, SoundBelow, SoundList, FaultOf, t_fault, c_fault, k_fault, m_fault, LowestFault}
-use Rattle.job.specs.Meaning.{RefusalNumbered, CheckedNumbered, Zeros, NoneZeros, NonePut, EmptyNonePut, JobRows, JobChecks, ListRows, ListChecks}
+use Rattle.job.specs.Meaning.{RefusalNumbered, AnswerNumbered, CheckedNumbered, Zeros, NoneZeros, NonePut, EmptyNonePut, JobRows, JobChecks, ListRows, ListChecks}
 use Rattle.job.proofs.ToldLaws.{apart, valued}
 use Rattle.job.proofs.TestLaws.{clash, allowed_within, within_allowed, not_allowed, not_within}
 use Rattle.job.proofs.CheckLaws.{no_job_told, one_more, stays, by_count, by_jobs}
@@ -24,6 +25,10 @@ use Rattle.job.proofs.CheckLaws.{no_job_told, one_more, stays, by_count, by_jobs
 -- the numbers
 pub refusal_numbered : RefusalNumbered
 refusal_numbered refusal r e = e
+
+pub answer_numbered : AnswerNumbered
+answer_numbered A values (Ok x) r e = e
+answer_numbered A values (Err refusal) r e = e
 
 pub checked_numbered : CheckedNumbered
 checked_numbered checked r e = e
@@ -117,9 +122,11 @@ one_job_row_exactly i n j = (go (job_view j), fault_names i j n)
     go (faulty_job n' fault) e = subst (FaultOf j) (ap (λ (t : Told). t.number) (sym (fault_names i j n' fault) ∙ e)) fault
 
 pub job_checks : JobChecks
-job_checks at j r e =
-    subst (JobRows at j) (sym e)
-    (record { passes = one_job_passes_exactly at j; job_row = λ n. one_job_row_exactly at n j })
+job_checks at j r e = (
+  subst (JobRows at j) (sym e.0)
+      (record { passes = one_job_passes_exactly at j; job_row = λ n. one_job_row_exactly at n j }),
+  e.1,
+)
 
 -- the first n jobs
 jobs_sound : (jobs : List Job) (n : ℕ) → SoundBelow jobs n → jobs_told jobs n ≡ passed
@@ -251,12 +258,13 @@ no_other_row l zero-not one-not two-not e = go (list_view l)
     go (sound_list h) = apart (sym (list_sound l h) ∙ e) zero-not
     go (faulty_list n i h) = valued (sym (list_fault l n i h) ∙ e)
 
+pub list_rows : (l : JobList) → ListRows l (list_told l)
+list_rows l = record {
+  passes = passes_exactly l;
+  row_one = row_one_exactly l;
+  row_two = row_two_exactly l;
+  job_rows = job_rows_exactly l;
+}
+
 pub list_checks : ListChecks
-list_checks l r e =
-    subst (ListRows l) (sym e)
-    (record {
-      passes = passes_exactly l;
-      row_one = row_one_exactly l;
-      row_two = row_two_exactly l;
-      job_rows = job_rows_exactly l;
-    })
+list_checks l r e = (subst (ListRows l) (sym e.0) (list_rows l), e.1)

@@ -9,10 +9,9 @@ use lib.ListN.{length, get_or}
 use borrow.Author.Tests.{eqb-false}
 use Rattle.job.specs.declared.refusal.Refusal.{Refusal}
 use Rattle.job.specs.declared.refusal.Refusal.TheVariants.{NoJobs, TooManyJobs, Period, Service, Window, Share, OriginalModel, CycleTooLong, Overload, StateOutOfRange, ClockAtLimit, BufferTooShort, SheetForm, JobBytes, OrderOrModel, SlotCount, SheetTooLong}
-use Rattle.job.specs.declared.refusal.Checked.{Checked}
-use Rattle.job.specs.declared.refusal.Checked.TheVariants.{Passed, Refused}
+use Rattle.std.specs.Prelude.{Result, Ok, Err}
 use Rattle.job.specs.Told.{Told, row, told, told_checked}
-use Rattle.job.specs.Meaning.{RefusalOneToOne, CheckedOneToOne}
+use Rattle.job.specs.Meaning.{RefusalOneToOne, AnswerOneToOne, CheckedOneToOne}
 
 -- two answers of different numbers, or of different numbers of values, are not equal
 pub apart : {n m : ℕ} {a b : List ℕ} → row n a ≡ row m b → eqb n m ≡ false → ⊥
@@ -76,13 +75,16 @@ told_refuses r = (row_by_row r).1
 pub refusal_one_to_one : RefusalOneToOne
 refusal_one_to_one = one_to_one told row_back row_back_lem
 
-checked_back : Told → Checked
-checked_back t = cond (eqb t.number 0) Passed (Refused (row_back t))
+-- no refusal is told as what passed
+pub not_passed : (r : Refusal) {values : List ℕ} → told r ≡ row 0 values → ⊥
+not_passed r e = eqb-false (told r).number 0 (told_refuses r) (ap (λ (t : Told). t.number) e)
 
-checked_back_lem : (r : Checked) → checked_back (told_checked r) ≡ r
-unfolding checked_back
-checked_back_lem Passed = refl
-checked_back_lem (Refused r) = rw (told_refuses r) (ap Refused (row_back_lem r))
+pub answer_one_to_one : AnswerOneToOne
+answer_one_to_one A values apart_values (Ok x) (Ok y) e = ap Ok (apart_values x y (ap (λ (t : Told). t.values) e))
+answer_one_to_one A values apart_values (Ok x) (Err r) e = absurd (not_passed r (sym e))
+answer_one_to_one A values apart_values (Err r) (Ok y) e = absurd (not_passed r e)
+answer_one_to_one A values apart_values (Err r) (Err s) e = ap Err (refusal_one_to_one r s e)
 
+-- .. of a check that hands nothing back
 pub checked_one_to_one : CheckedOneToOne
-checked_one_to_one = one_to_one told_checked checked_back checked_back_lem
+checked_one_to_one = answer_one_to_one (Unit {0}) (λ _. []) (λ _ _ _. refl)

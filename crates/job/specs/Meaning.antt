@@ -1,27 +1,38 @@
 -- What a reader may conclude from the promises of `job`, of whatever result they allow. Each statement is proved in proofs/, under its name.
-use Rattle.std.specs.Prelude.{◌≡◌, ◌↔◌, [], ◌∷◌, ℕ, ◌<◌, length, get_or}
+use Rattle.std.specs.Prelude.{Result, IfOk, ◌≡◌, ◌↔◌, [], ◌∷◌, List, ℕ, ◌<◌, length, get_or}
 use Rattle.job.specs.declared.record.Job.{Job}
 use Rattle.job.specs.declared.list.JobList.{JobList}
 use Rattle.job.specs.declared.refusal.Refusal.{Refusal}
-use Rattle.job.specs.declared.refusal.Checked.{Checked}
 use Rattle.job.specs.Limit.{count_most}
-use Rattle.job.specs.Told.{Told, told, told_checked, passed, row}
+use Rattle.job.specs.Told.{Told, told, told_answer, told_checked, passed, row}
 use Rattle.job.specs.Sound.{SoundJob, SoundList, FaultOf, LowestFault}
-use Rattle.job.specs.Promise.{NonePromise, JobCheckPromise, EmptyPromise, ListCheckPromise, CheckedNumberPromise, RefusalNumberPromise}
+use Rattle.job.specs.Promise.{NonePromise, JobCheckPromise, EmptyPromise, ListCheckPromise, AnswerNumberPromise, RefusalNumberPromise}
 
 -- an answer is determined by the paper's number and values
 abbrev pub RefusalOneToOne : Type 0
 RefusalOneToOne = (a b : Refusal) → told a ≡ told b → a ≡ b
 
-abbrev pub CheckedOneToOne : Type 0
-CheckedOneToOne = (a b : Checked) → told_checked a ≡ told_checked b → a ≡ b
+-- .. where what is handed back is determined by the values told of it
+abbrev pub AnswerOneToOne : Type 1
+AnswerOneToOne =
+    (A : Type 0) (values : A → List ℕ) → ((x y : A) → values x ≡ values y → x ≡ y) → (a b : Result A Refusal)
+    → told_answer values a ≡ told_answer values b → a ≡ b
 
--- `Refusal::number`, `Checked::number`: the row's number, 0 for none
+-- .. as of a check that hands nothing back
+abbrev pub CheckedOneToOne : Type 0
+CheckedOneToOne = (a b : Result (Unit {0}) Refusal) → told_checked a ≡ told_checked b → a ≡ b
+
+-- `Refusal::number`, `number_of`: the row's number, 0 for none
 abbrev pub RefusalNumbered : Type 0
 RefusalNumbered = (refusal : Refusal) (r : ℕ) → RefusalNumberPromise refusal r → r ≡ (told refusal).number
 
+abbrev pub AnswerNumbered : Type 1
+AnswerNumbered =
+    (A : Type 0) (values : A → List ℕ) (answer : Result A Refusal) (r : ℕ) → AnswerNumberPromise answer r
+    → r ≡ (told_answer values answer).number
+
 abbrev pub CheckedNumbered : Type 0
-CheckedNumbered = (checked : Checked) (r : ℕ) → CheckedNumberPromise checked r → r ≡ (told_checked checked).number
+CheckedNumbered = (checked : Result (Unit {0}) Refusal) (r : ℕ) → AnswerNumberPromise checked r → r ≡ (told_checked checked).number
 
 -- `Job::none`: where no job is, all zeros stand
 pub record Zeros (j : Job) : Type 0 where
@@ -50,7 +61,7 @@ pub record JobRows (at : ℕ) (j : Job) (t : Told) : Type 0 where
   pub job_row : (n : ℕ) → (t ≡ row n (at ∷ [])) ↔ FaultOf j n
 
 abbrev pub JobChecks : Type 0
-JobChecks = (at : ℕ) (j : Job) (r : Checked) → JobCheckPromise at j r → JobRows at j (told_checked r)
+JobChecks = (at : ℕ) (j : Job) (r : Result Job Refusal) → JobCheckPromise at j r → JobRows at j (told_checked r) × IfOk r (λ c. c ≡ j)
 
 -- `JobList::check`: what is told of list l
 pub record ListRows (l : JobList) (t : Told) : Type 0 where
@@ -64,4 +75,4 @@ pub record ListRows (l : JobList) (t : Told) : Type 0 where
   pub job_rows : (n i : ℕ) → (t ≡ row n (i ∷ [])) ↔ LowestFault l n i
 
 abbrev pub ListChecks : Type 0
-ListChecks = (l : JobList) (r : Checked) → ListCheckPromise l r → ListRows l (told_checked r)
+ListChecks = (l : JobList) (r : Result JobList Refusal) → ListCheckPromise l r → ListRows l (told_checked r) × IfOk r (λ c. c ≡ l)

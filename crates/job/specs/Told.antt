@@ -1,9 +1,7 @@
 -- 'Where an answer is an enum, a definition gives this paper's number and values for every one of its cases.'
-use Rattle.std.specs.Prelude.{ℕ, List, [], ◌∷◌}
+use Rattle.std.specs.Prelude.{ℕ, List, [], ◌∷◌, Result, Ok, Err}
 use Rattle.job.specs.declared.refusal.Refusal.{Refusal}
 use Rattle.job.specs.declared.refusal.Refusal.TheVariants.{NoJobs, TooManyJobs, Period, Service, Window, Share, OriginalModel, CycleTooLong, Overload, StateOutOfRange, ClockAtLimit, BufferTooShort, SheetForm, JobBytes, OrderOrModel, SlotCount, SheetTooLong}
-use Rattle.job.specs.declared.refusal.Checked.{Checked}
-use Rattle.job.specs.declared.refusal.Checked.TheVariants.{Passed, Refused}
 
 -- an answer as the paper puts it: the row's number, 0 for none, and the values that go with it
 pub record Told : Type 0 where
@@ -36,6 +34,11 @@ told SheetTooLong = row 17 []
 abbrev pub passed : Told
 passed = row 0 []
 
-abbrev pub told_checked : Checked → Told
-told_checked Passed = passed
-told_checked (Refused r) = told r
+-- an answer that is `Ok` refuses nothing, and tells what is handed back as `values` says
+abbrev pub told_answer : {A : Type 0} → (A → List ℕ) → Result A Refusal → Told
+told_answer values (Ok a) = row 0 (values a)
+told_answer values (Err r) = told r
+
+-- of a check nothing is told but that it passed
+abbrev pub told_checked : {A : Type 0} → Result A Refusal → Told
+told_checked r = told_answer (λ _. []) r

@@ -2,10 +2,12 @@
 // the answer wherever a number is not allowed.
 #![tactic(auto)]
 
+mod checked;
 mod list;
 mod record;
 mod refusal;
 
+pub use checked::{CheckedJob, CheckedList};
 pub use list::JobList;
 pub use record::Job;
-pub use refusal::{Checked, Refusal};
+pub use refusal::{Refusal, number_of};

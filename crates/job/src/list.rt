@@ -1,8 +1,10 @@
-// A list of jobs by value: 16 records and a count. Records at and past the count are never read.
-ghost use Rattle.job.specs.Promise.{EmptyPromise, ListCheckPromise};
+// A list of jobs by value: 16 records and a count. Records at and past the count are never read. The
+// count is a field of its own: any count can be handed in, and is refused by row 1 or 2.
+ghost use Rattle.job.specs.Promise.{EmptyPromise, CallableBelow, ListByPromise, ListOfPromise, ListCheckPromise};
 
+use crate::checked::CheckedList;
 use crate::record::Job;
-use crate::refusal::{Checked, Refusal};
+use crate::refusal::Refusal;
 
 #[derive(Clone, Copy)]
 pub struct JobList {
@@ -24,26 +26,40 @@ impl JobList {
         }
     }
 
+    // A list of any count, of which the first 16 jobs are there: each is what `job` answers of its number.
+    pub fn by<F: Fn(usize) -> Job>(count: usize, job: F) -> JobList
+        requires { CallableBelow (F.pre job) count }
+        ensures { ListByPromise (F.post job) count result }
+    {
+        let mut list = JobList::empty(count);
+        for at in 0..count.min(JobList::COUNT_MOST) {
+            list.jobs[at] = job(at);
+        }
+        list
+    }
+
+    // A lent list of any length: its count is its length, and no job past the sixteenth is read. No
+    // `From`: its promise would have no name.
+    pub fn of(jobs: &[Job]) -> JobList
+        ensures { ListOfPromise jobs.now result }
+    {
+        JobList::by(jobs.len(), |at| jobs[at])
+    }
+
     // Rows 1, 2, then 3 to 6 for the lowest job at fault.
-    pub fn check(self) -> Checked
+    pub fn check(self) -> Result<CheckedList, Refusal>
         ensures { ListCheckPromise self result }
     {
         let count = self.count;
         if count == 0 {
-            return Checked::Refused(Refusal::NoJobs);
+            return Err(Refusal::NoJobs);
         }
         if JobList::COUNT_MOST < count {
-            return Checked::Refused(Refusal::TooManyJobs);
+            return Err(Refusal::TooManyJobs);
         }
-        let mut at: usize = 0;
-        while at < count {
-            let job = self.jobs[at];
-            let found = job.check(at);
-            if let Checked::Refused(_) = found {
-                return found;
-            }
-            at += 1;
+        for at in 0..count {
+            self.jobs[at].check(at)?;
         }
-        Checked::Passed
+        Ok(CheckedList { list: self })
     }
 }

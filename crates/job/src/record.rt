@@ -1,13 +1,14 @@
 // One job: C slots for an instance, T slots in a period, m instances in every k periods.
 ghost use Rattle.std.specs.Prelude.{◌≡◌};
 ghost use Rattle.job.specs.Check.{allowed};
-ghost use Rattle.job.specs.Promise.{NonePromise, JobCheckPromise};
+ghost use Rattle.job.specs.Promise.{OfPromise, NonePromise, JobCheckPromise};
 
-use crate::refusal::{Checked, Refusal};
+use crate::checked::CheckedJob;
+use crate::refusal::Refusal;
 
 // Each number has 32 bits, so that the five digits of a sheet arrive whole and are refused by
 // the row that is theirs.
-#[derive(Clone, Copy)]
+#[derive(Clone, Copy, Debug, PartialEq, Eq)]
 pub struct Job {
     pub c: u32,
     pub t: u32,
@@ -22,10 +23,18 @@ impl Job {
     pub const K_MOST: u32 = 255;
     // 'common cycle, admission only: at most 16,777,216'
     pub const CYCLE_MOST: u64 = 16777216;
-    // 'model 0 is relaxed, 1 is original': how a job is served
+    // 'model 0 is relaxed, 1 is original': how a job is served. Numbers and no enum, wherever a model is
+    // handed in: any other is refused by row 15.
     pub const RELAXED: u32 = 0;
 
     pub const ORIGINAL: u32 = 1;
+
+    // 'Jobs are written C T m k.'
+    pub fn of(c: u32, t: u32, m: u32, k: u32) -> Job
+        ensures { OfPromise c t m k result }
+    {
+        Job { c, t, m, k }
+    }
 
     // What stands where no job is: all zeros.
     pub fn none() -> Job
@@ -40,22 +49,22 @@ impl Job {
     }
 
     // The job at number `at` of a list, by rows 3 to 6: T before C before k before m.
-    pub fn check(self, at: usize) -> Checked
+    pub fn check(self, at: usize) -> Result<CheckedJob, Refusal>
         ensures { JobCheckPromise at self result }
     {
         if !within(self.t, Job::T_MOST) {
-            return Checked::Refused(Refusal::Period { job: at });
+            return Err(Refusal::Period { job: at });
         }
         if !within(self.c, self.t) {
-            return Checked::Refused(Refusal::Service { job: at });
+            return Err(Refusal::Service { job: at });
         }
         if !within(self.k, Job::K_MOST) {
-            return Checked::Refused(Refusal::Window { job: at });
+            return Err(Refusal::Window { job: at });
         }
         if !within(self.m, self.k) {
-            return Checked::Refused(Refusal::Share { job: at });
+            return Err(Refusal::Share { job: at });
         }
-        Checked::Passed
+        Ok(CheckedJob { job: self })
     }
 }
 

@@ -1,7 +1,7 @@
 // The numbered refusals of document 01, every row once, with the values that the row names.
-ghost use Rattle.job.specs.Promise.{CheckedNumberPromise, RefusalNumberPromise};
+ghost use Rattle.job.specs.Promise.{AnswerNumberPromise, RefusalNumberPromise};
 
-#[derive(Clone, Copy)]
+#[derive(Clone, Copy, Debug, PartialEq, Eq)]
 pub enum Refusal {
     // 1
     NoJobs,
@@ -39,27 +39,8 @@ pub enum Refusal {
     SheetTooLong,
 }
 
-// The answer of a check that has nothing to hand back.
-#[derive(Clone, Copy)]
-pub enum Checked {
-    Passed,
-    Refused(Refusal),
-}
-
-impl Checked {
-    // 0, or the row's number.
-    pub fn number(self) -> u32
-        ensures { CheckedNumberPromise self result }
-    {
-        match self {
-            Checked::Passed => 0,
-            Checked::Refused(refusal) => refusal.number(),
-        }
-    }
-}
-
 impl Refusal {
-    // The row's number.
+    // The row's number. A method and no `From`: `u32::from(refusal)` would not say which number.
     pub fn number(self) -> u32
         ensures { RefusalNumberPromise self result }
     {
@@ -82,5 +63,15 @@ impl Refusal {
             Refusal::SlotCount => 16,
             Refusal::SheetTooLong => 17,
         }
+    }
+}
+
+// 0, or the row's number, as the C entries return it. A `From` for a `Result` cannot be written here.
+pub fn number_of<T: Copy>(answer: Result<T, Refusal>) -> u32
+    ensures { AnswerNumberPromise answer result }
+{
+    match answer {
+        Ok(_) => 0,
+        Err(refusal) => refusal.number(),
     }
 }

@@ -1,0 +1,14 @@
+-- The four bytes are the number's.
+use Rattle.std.proofs.Common.{◌+◌, ◌-◌, length, ap, ◌∙◌, arith}
+use Rattle.text.specs.Word.{word_bytes}
+use Rattle.text.specs.Written.{written}
+use Rattle.text.proofs.WrittenLaws.{written_mid}
+use Rattle.text.proofs.inner.put_word.Goals as goal
+
+pub returns-clause-buf_after : goal.returns-clause-buf_after
+unfolding word_bytes
+returns-clause-buf_after c =
+    let a = c.args in
+    let same = c.copy_from_slice.ensures.after ∙ c.to_le_bytes.ensures in
+    written_mid a.buf.now a.at (a.at + 4 - a.at) c.copy_from_slice.new.self (omega (arith, ap length same))
+    ∙ ap (written a.buf.now a.at) same

@@ -15,23 +15,17 @@ use mir.Facts.{to_z-of_z}
 use Rattle.place.specs.declared.setting.Setting.{Setting}
 use Rattle.place.specs.declared.record.Place.{Place}
 use Rattle.place.specs.declared.inner.choice.Fraction.{Fraction}
-use Rattle.place.specs.declared.inner.choice.Held.{Held}
 use Rattle.place.specs.Setting.{by_units, in_order_v}
 use Rattle.place.specs.Sound.{SoundPlace}
 use Rattle.place.specs.Place.{window_left, left_of, finished_of, owed_of, eligible_of, numerator_of, overdue_of}
-use Rattle.place.specs.Choice.{Small, SmallHeld, room_of, takes_spare, candidate_of, window_most, due_away, spare_away, distance_of, nearer_of, better_of, nobody}
+use Rattle.place.specs.Fraction.{Small}
+use Rattle.place.specs.Choice.{window_most, virtual_away, window_away, due_away, spare_away, room_of, takes_spare}
 use Rattle.job.proofs.TestLaws.{clash, both}
 use Rattle.place.proofs.CondLaws.{by_test}
 use Rattle.place.proofs.DistanceLaws.{plus, difference_plus, leb_shift}
 use Rattle.place.proofs.SignedLaws.{abs_sub, abs_mul, abs_fits, small_pos, difference_most}
 
 module _ {setting : Setting} {q : Place} (s : SoundPlace setting q) where
-  pub mc_high : q.job.m * q.job.c ≤ 1044480
-  mc_high = mul-le-mul {n₂ = 255} {m₂ = 4096} (omega arith) (omega arith)
-
-  pub pc_high : q.at.p * q.job.c ≤ 1044480
-  pc_high = mul-le-mul {n₂ = 255} {m₂ = 4096} (omega arith) (omega arith)
-
   -- one instance a period, at most
   finished_high : finished_of setting q ≤ q.at.p
   unfolding finished_of
@@ -41,11 +35,11 @@ module _ {setting : Setting} {q : Place} (s : SoundPlace setting q) where
       go true e = div-le_of_le-mul q.job.c (rw mul_comm (s.service.by_units_lem e).u_p)
       go false e = (s.service.by_instances e).s_p
 
-  pub owed_high : owed_of setting q ≤ 255
+  owed_high : owed_of setting q ≤ 255
   unfolding owed_of
   owed_high = omega arith
 
-  pub window_high : window_left q ≤ 1044480
+  window_high : window_left q ≤ 1044480
   unfolding window_left
   window_high = mul-le-mul {n₂ = 255} {m₂ = 4096} (omega arith) (omega arith)
 
@@ -68,7 +62,7 @@ module _ {setting : Setting} {q : Place} (s : SoundPlace setting q) where
   pub gone_high : q.at.e * owed_of setting q ≤ 1044480
   gone_high = mul-le-mul {n₂ = 4096} {m₂ = 255} (omega arith) owed_high
 
-  pub numerator_abs : nat_abs (numerator_of setting q) ≤ 2088960
+  numerator_abs : nat_abs (numerator_of setting q) ≤ 2088960
   unfolding numerator_of
   numerator_abs = omega (arith, abs_sub (window_left q) (q.at.e * owed_of setting q), window_high, gone_high)
 
@@ -178,9 +172,6 @@ module _ {setting : Setting} {q : Place} (s : SoundPlace setting q) where
       let done : finished_of setting q ≤ 255 = omega (arith, finished_high) in
       omega (arith, window_high, mul-le-mul next done)
 
-  pub next_high : (q.at.e + 1) * q.job.m ≤ 1044480
-  next_high = mul-le-mul {n₂ = 4096} {m₂ = 255} (omega arith) (omega arith)
-
   pub owed_most : owed_of setting q ≤ q.job.m
   unfolding owed_of
   owed_most = omega arith
@@ -192,11 +183,11 @@ module _ {setting : Setting} {q : Place} (s : SoundPlace setting q) where
       let more : (q.job.m + 1) * q.job.t ≤ (q.job.k - q.at.p + 1) * q.job.t = mul-le-mul_right q.job.t (omega arith) in
       sym overdue_is ∙ lt-leb (window_left q) ((q.at.e + 1) * owed_of setting q) (omega arith)
 
-  pub due_small : Small (due_away setting q)
-  unfolding due_away
-  due_small =
-      by_test Small (in_order_v setting) (λ e. record { num_high = numerator_abs; den_high = owed_high })
-      (λ e. record { num_high = omega (arith, left_high); den_high = omega arith })
+  pub virtual_small : Small (virtual_away setting q)
+  virtual_small = record { num_high = numerator_abs; den_high = owed_high }
+
+  pub window_small : Small (window_away q)
+  window_small = record { num_high = omega (arith, left_high); den_high = omega arith }
 
   -- no deadline is more than a window away
   pub due_high : plus (due_away setting q).num ≤ window_most
@@ -207,10 +198,6 @@ module _ {setting : Setting} {q : Place} (s : SoundPlace setting q) where
 
   pub spare_small : Small (spare_away q)
   spare_small = record { num_high = omega (arith, left_high); den_high = omega arith }
-
-  distance_small : Small (distance_of setting q)
-  unfolding distance_of
-  distance_small = by_test Small (eligible_of setting q) (λ e. due_small) (λ e. spare_small)
 
 -- the products that two distances are compared by
 module _ {a b : Fraction} (s : Small a) (t : Small b) where
@@ -226,14 +213,3 @@ module _ {a b : Fraction} (s : Small a) (t : Small b) where
   cross_at =
       let h : b.den ≤ 4294967295 = omega (arith, t.den_high) in
       rw (to_z-of_z num_fits, small_pos h)
-
-pub better_small :
-    {setting : Setting} {q : Place} (best : Held) → SoundPlace setting q → SmallHeld best → (i : ℕ)
-    → SmallHeld (better_of setting best i q)
-unfolding better_of
-better_small {setting} {q} best s t i =
-    by_test SmallHeld (candidate_of setting q && nearer_of (distance_of setting q) best.away)
-    (λ e. distance_small s) (λ e. t)
-
-pub nobody_small : SmallHeld nobody
-nobody_small = record { num_high = omega arith; den_high = omega arith }

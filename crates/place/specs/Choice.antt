@@ -1,5 +1,5 @@
 -- Who may be given a slot, and which of two is chosen before the other: 'Choose among the eligible jobs', and document 02, Item 1.
-use Rattle.std.specs.Prelude.{ℕ, ◌+◌, ◌*◌, ◌≤◌, Bool, ◌&&◌, ◌||◌, cond, ltb, eqb, pos, nat_abs, ◌*ℤ◌}
+use Rattle.std.specs.Prelude.{ℕ, ◌+◌, ◌*◌, Bool, ◌&&◌, ◌||◌, cond, ltb, eqb, pos, ◌*ℤ◌}
 use Rattle.std.specs.Int.Signed.{lt_z}
 use Rattle.job.specs.Limit.{count_most}
 use Rattle.place.specs.declared.setting.Setting.{Setting}
@@ -47,11 +47,6 @@ spare_away q = ratio_of (window_most + left_of q) 1
 unfoldable pub distance_of : Setting → Place → Fraction
 distance_of setting q = cond (eligible_of setting q) (due_away setting q) (spare_away q)
 
--- what the distance of a sound place keeps to
-pub record Small (d : Fraction) : Type 0 where
-  pub num_high : nat_abs d.num ≤ 2088960
-  pub den_high : d.den ≤ 255
-
 -- 'two are compared exactly as fractions'
 unfoldable pub nearer_of : Fraction → Fraction → Bool
 nearer_of a b = lt_z (a.num *ℤ pos b.den) (b.num *ℤ pos a.den)
@@ -73,9 +68,6 @@ no_place = count_most
 
 abbrev pub nobody : Held
 nobody = held_at no_place (ratio_of 1 0)
-
-abbrev pub SmallHeld : Held → Type 0
-SmallHeld h = Small h.away
 
 -- the one held after place q of number i. 'Equal: the lower job number.'
 unfoldable pub better_of : Setting → Held → ℕ → Place → Held

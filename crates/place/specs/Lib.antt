@@ -2,6 +2,7 @@
 pub mod Setting
 pub mod Opening
 pub mod Place
+pub mod Fraction
 pub mod Choice
 pub mod Range
 pub mod Sound

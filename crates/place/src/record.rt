@@ -7,7 +7,7 @@ use job::Job;
 
 // e slots gone in the period, which is the window's p-th; the service so far: u slots of this
 // window (relaxed), or s finished in this window and v slots of this period (original); the tag.
-#[derive(Clone, Copy)]
+#[derive(Clone, Copy, Debug, PartialEq, Eq)]
 pub struct Progress {
     pub e: u32,
     pub p: u32,
@@ -17,7 +17,7 @@ pub struct Progress {
     pub tag: bool,
 }
 
-#[derive(Clone, Copy)]
+#[derive(Clone, Copy, Debug, PartialEq, Eq)]
 pub struct Place {
     pub job: Job,
     pub at: Progress,

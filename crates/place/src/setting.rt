@@ -1,10 +1,13 @@
-// How a run is run: its order and its service model, as numbers, so that a state of any content
-// can be handed in and refused; and whether spare slots are given away.
+// How a run is run: its order and its service model, and whether spare slots are given away. Order and
+// model are numbers and no enums: a state of any content can be handed in and refused (rows 10 and 15),
+// and `AllowedAnswers` speaks of every number.
+ghost use Rattle.std.specs.Prelude.{◌≡◌};
+ghost use Rattle.place.specs.Setting.{by_units};
 ghost use Rattle.place.specs.Promise.{MadePromise, AllowedPromise};
 
 use job::Job;
 
-#[derive(Clone, Copy)]
+#[derive(Clone, Copy, Debug, PartialEq, Eq)]
 pub struct Setting {
     pub order: u32,
     pub model: u32,
@@ -33,5 +36,14 @@ impl Setting {
         ensures { AllowedPromise self result }
     {
         (self.order <= Setting::W) & (self.model <= Job::ORIGINAL)
+    }
+
+    // How service is kept: by units, or by instances. Each question of a place asks it, and there is no
+    // trait of the models or orders: they are numbers in the state, and a loop for each would be longer.
+    // Lent, since a copy would be read in words of two numbers in the slot loops.
+    pub(crate) fn by_units(&self) -> bool
+        ensures { result ≡ by_units self.now }
+    {
+        self.model == Job::RELAXED
     }
 }

@@ -1,21 +1,19 @@
-// Row 10 for one place: whether a place of any content is in its ranges.
+// Row 10 for one place: whether a place of any content is in its ranges. It is no `Sound` yet, so that
+// the setting is passed beside it.
+#![tactic(auto, unfolding(crate::specs::Range::job_passes, crate::specs::Range::within_m, crate::specs::Range::units_in_range, crate::specs::Range::instances_in_range, crate::specs::Range::service_in_range, crate::specs::Range::progress_in_range, crate::specs::Range::place_blank, crate::specs::Range::place_in_range))]
+
 ghost use Rattle.std.specs.Prelude.{◌≡◌, ◌*◌, leb};
 ghost use Rattle.place.specs.Range.{job_passes, within_m, units_in_range, instances_in_range, service_in_range, progress_in_range, place_blank, place_in_range};
 
-use crate::inner::service::by_units;
 use crate::record::Place;
 use crate::setting::Setting;
-use job::{Checked, Job};
+use job::Job;
 
 // 'its jobs pass 1 to 6'
 fn job_passes(job: Job) -> bool
     ensures { result ≡ job_passes job }
 {
-    let checked = job.check(0);
-    match checked {
-        Checked::Passed => true,
-        Checked::Refused(_) => false,
-    }
+    job.check(0).is_ok()
 }
 
 // u ≤ n C, widened so that no product wraps.
@@ -52,7 +50,7 @@ fn instances_in_range(q: Place) -> bool
 fn service_in_range(setting: Setting, q: Place) -> bool
     ensures { result ≡ service_in_range setting q }
 {
-    if by_units(setting) {
+    if setting.by_units() {
         return within_m(setting, q) & units_in_range(q);
     }
     within_m(setting, q) & instances_in_range(q)
@@ -64,21 +62,11 @@ fn progress_in_range(setting: Setting, q: Place) -> bool
     (q.at.e < q.job.t) & (1 <= q.at.p) & (q.at.p <= q.job.k) & service_in_range(setting, q)
 }
 
+// 'places past the last job are all zero'
 fn place_blank(q: Place) -> bool
     ensures { result ≡ place_blank q }
 {
-    let j = q.job;
-    let at = q.at;
-    (j.c == 0)
-        & (j.t == 0)
-        & (j.m == 0)
-        & (j.k == 0)
-        & (at.e == 0)
-        & (at.p == 0)
-        & (at.u == 0)
-        & (at.s == 0)
-        & (at.v == 0)
-        & !at.tag
+    q == Place::blank()
 }
 
 pub fn place_in_range(setting: Setting, listed: bool, q: Place) -> bool

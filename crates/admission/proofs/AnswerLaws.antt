@@ -1,42 +1,23 @@
 -- What an answer returns, by its variant; and an answer is determined by the paper's number and values.
-use mathlib.Core.Path.{◌≡◌, refl, ◌∙◌, ap}
+use mathlib.Core.Path.{◌≡◌}
 use mathlib.Core.Bool.{false, cond}
-use mathlib.Core.List.{[], ◌∷◌}
+use mathlib.Core.List.{List, [], ◌∷◌}
 use Prim.Native.Nat.{ℕ}
-use lib.Dec.{eqb}
+use native.Mathlib.Omega.{arith}
 use lib.ListN.{get_or}
+use Rattle.std.proofs.lemmas.Bool.Decides.{nat_tests}
 use Rattle.job.specs.declared.refusal.Refusal.{Refusal}
-use Rattle.job.specs.declared.refusal.Refusal.TheVariants.{NoJobs, TooManyJobs, Period, Service, Window, Share, OriginalModel, CycleTooLong, Overload, StateOutOfRange, ClockAtLimit, BufferTooShort, SheetForm, JobBytes, OrderOrModel, SlotCount, SheetTooLong}
-use Rattle.job.specs.Told.{Told, told}
-use Rattle.job.proofs.ToldLaws.{one_to_one, row_back, row_back_lem, told_refuses}
-use Rattle.admission.specs.declared.answer.Admission.{Admission}
-use Rattle.admission.specs.declared.answer.Admission.TheVariants.{Admitted, Refused}
+use Rattle.job.specs.declared.refusal.Refusal.TheVariants.{Overload}
+use Rattle.job.specs.Told.{told}
+use Rattle.job.proofs.ToldLaws.{answer_one_to_one}
+use Rattle.job.proofs.Meaning.{answer_numbered}
+use Rattle.admission.specs.declared.answer.Admitted.{Admitted}
 use Rattle.admission.specs.Answer.{told_admission, returns_both, cycle_returned, load_returned}
 use Rattle.admission.specs.Meaning.{AdmissionOneToOne, AdmissionNumbered, Returned, CycleReturned, LoadReturned}
 
 -- neither cycle nor load is returned of a refusal that is not row 9
-others_return_none : (r : Refusal) → ((h d : ℕ) → r ≡ Overload h d → ⊥) → returns_both (told r) ≡ false
-others_return_none NoJobs k = refl
-others_return_none TooManyJobs k = refl
-others_return_none (Period j) k = refl
-others_return_none (Service j) k = refl
-others_return_none (Window j) k = refl
-others_return_none (Share j) k = refl
-others_return_none OriginalModel k = refl
-others_return_none CycleTooLong k = refl
-others_return_none (Overload h d) k = absurd (k h d refl)
-others_return_none StateOutOfRange k = refl
-others_return_none ClockAtLimit k = refl
-others_return_none BufferTooShort k = refl
-others_return_none (SheetForm p) k = refl
-others_return_none JobBytes k = refl
-others_return_none OrderOrModel k = refl
-others_return_none SlotCount k = refl
-others_return_none SheetTooLong k = refl
-
-pub refused_otherwise :
-    {a : Admission} {r : Refusal} → a ≡ Refused r → ((h d : ℕ) → r ≡ Overload h d → ⊥) → returns_both (told_admission a) ≡ false
-refused_otherwise {r = r} e k = ap (λ (x : Admission). returns_both (told_admission x)) e ∙ others_return_none r k
+pub others_return_none : (r : Refusal) → ((h d : ℕ) → r ≡ Overload h d → ⊥) → returns_both (told r) ≡ false
+others_return_none r k = grind (arith, nat_tests)
 
 -- one of the two values, 0 where they are not returned
 value_returned :
@@ -59,16 +40,10 @@ unfolding load_returned
 load_returned_lem = value_returned 1
 
 pub admission_numbered : AdmissionNumbered
-admission_numbered a r e = e
-
--- the way back from number and values
-admission_back : Told → Admission
-admission_back t = cond (eqb t.number 0) (Admitted (get_or t.values 0 0) (get_or t.values 1 0)) (Refused (row_back t))
-
-admission_back_lem : (a : Admission) → admission_back (told_admission a) ≡ a
-unfolding admission_back
-admission_back_lem (Admitted h d) = refl
-admission_back_lem (Refused r) = rw (told_refuses r) (ap Refused (row_back_lem r))
+admission_numbered = answer_numbered Admitted (λ (x : Admitted). x.cycle ∷ x.load ∷ [])
 
 pub admission_one_to_one : AdmissionOneToOne
-admission_one_to_one = one_to_one told_admission admission_back admission_back_lem
+admission_one_to_one = answer_one_to_one Admitted (λ (x : Admitted). x.cycle ∷ x.load ∷ []) same
+  where
+    same : (x y : Admitted) → ◌≡◌ {A = List ℕ} (x.cycle ∷ x.load ∷ []) (y.cycle ∷ y.load ∷ []) → x ≡ y
+    same x y e = λ dim. record { cycle = get_or (e dim) 0 0; load = get_or (e dim) 1 0 }

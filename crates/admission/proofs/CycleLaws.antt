@@ -1,33 +1,31 @@
 -- The least common multiple, and how the cycle of a list goes on from job to job.
 use mathlib.Core.Path.{◌≡◌, refl, sym, ◌∙◌, ap}
 use mathlib.Core.Logic.{◌⊎◌, inl, inr}
-use mathlib.Core.Bool.{Bool, true, false, cond}
 use mathlib.Core.List.{List, [], ◌∷◌}
 use Prim.Native.Nat.{ℕ, zero, suc, ◌+◌, ◌*◌, ◌/◌, ◌≤◌, ◌<◌, ◌∣◌}
-use native.Mathlib.Nat.{mul_comm, mul-pos, mul-le-mul, le_trans, le_antisymm, div-le_self, div-mul_cancel, eq-zero-or-pos, one-dvd, dvd_refl, dvd-zero, dvd_trans, dvd-mul_left, dvd-mul_right, mul-dvd-mul_left, mul-dvd-mul_right, dvd_of_mul-dvd-mul_right, pos_of_dvd_of_pos, le_of_dvd}
+use native.Mathlib.Nat.{mul_comm, mul-pos, mul-le-mul, le_antisymm, div-mul_cancel, eq-zero-or-pos, one-dvd, dvd_refl, dvd-zero, dvd_trans, dvd-mul_left, dvd-mul_right, mul-dvd-mul_left, mul-dvd-mul_right, dvd_of_mul-dvd-mul_right, pos_of_dvd_of_pos, le_of_dvd}
 use native.Mathlib.Numerals.{add-one}
 use native.Mathlib.Decide.{le_ind}
 use native.Mathlib.Omega.{arith}
-use lib.Dec.{leb}
-use lib.ListN.{get_or}
-use borrow.Author.Tests.{leb-true, leb-false, le-leb, lt-leb}
+use Rattle.std.proofs.lemmas.Bool.Decides.{nat_tests}
 use Rattle.job.specs.declared.record.Job.{Job}
 use Rattle.job.specs.declared.list.JobList.{JobList}
+use Rattle.job.specs.declared.refusal.Refusal.{Refusal}
 use Rattle.job.specs.Limit.{t_most, k_most, cycle_most}
-use Rattle.job.specs.Told.{Told, row}
+use Rattle.job.specs.Told.{row, told}
 use Rattle.job.specs.Check.{job_at}
 use Rattle.job.specs.Sound.{SoundJob, SoundBelow, SoundList}
-use Rattle.job.proofs.ToldLaws.{apart}
+use Rattle.job.proofs.ToldLaws.{not_passed}
 use Rattle.admission.specs.Divisor.{GreatestDivisor, gcd}
 use Rattle.job.specs.Window.{window_of}
-use Rattle.admission.specs.Cycle.{lcm, cycle_upto, cycle_of, cycle_told}
+use Rattle.admission.specs.Cycle.{lcm, cycle_upto, cycle_of, within_told, cycle_told}
 use Rattle.admission.specs.Judged.{CommonMultiple, LeastCommonMultiple}
 use Rattle.admission.proofs.DivisorLaws.{divisor_unique, euclid_greatest, euclid_scaled}
 
 -- the code divides by whatever is the greatest common divisor
-lcm_by : {a b d : ℕ} → GreatestDivisor a b d → a / d * b ≡ lcm a b
+pub lcm_by : (a b d : ℕ) → GreatestDivisor a b d → a / d * b ≡ lcm a b
 unfolding lcm
-lcm_by {a} {b} {d} s = ap (λ (g : ℕ). a / g * b) (divisor_unique a b d (gcd a b) s (euclid_greatest a b))
+lcm_by a b d s = ap (λ (g : ℕ). a / g * b) (divisor_unique a b d (gcd a b) s (euclid_greatest a b))
 
 lcm_right : (a b : ℕ) → b ∣ lcm a b
 unfolding lcm
@@ -77,7 +75,7 @@ pub cycle_none : (jobs : List Job) → cycle_upto jobs 0 ≡ 1
 unfolding cycle_upto
 cycle_none jobs = refl
 
-cycle_more : (jobs : List Job) (i : ℕ) → cycle_upto jobs (i + 1) ≡ lcm (cycle_upto jobs i) (window_of (job_at jobs i))
+pub cycle_more : (jobs : List Job) (i : ℕ) → cycle_upto jobs (i + 1) ≡ lcm (cycle_upto jobs i) (window_of (job_at jobs i))
 unfolding cycle_upto
 cycle_more jobs i = ap (cycle_upto jobs) (add-one i)
 
@@ -125,25 +123,14 @@ cycle_multiple l s =
 pub cycle_is : (l : JobList) {h : ℕ} → SoundList l → LeastCommonMultiple l h → h ≡ cycle_of l
 cycle_is l s multiple = multiple_unique multiple (cycle_multiple l s)
 
--- one turn of the code: no product wraps, and it is the cycle of one job more
-pub cycle_next :
-    (jobs : List Job) (i : ℕ) {h w d : ℕ} → h ≡ cycle_upto jobs i → w ≡ window_of (job_at jobs i) → GreatestDivisor h w d
-    → h / d * w ≡ cycle_upto jobs (i + 1)
-cycle_next jobs i same window divisor = cc (lcm_by divisor, cycle_more jobs i)
+-- what is told of a cycle, and back
+pub within_short : {h : ℕ} → h ≤ cycle_most → within_told h ≡ row 0 (h ∷ [])
+unfolding within_told
+within_short {h} short = grind (arith, nat_tests)
 
-pub next_fits : (h d : ℕ) {j : Job} → SoundJob j → h ≤ cycle_most → h / d * window_of j ≤ cycle_most * (k_most * t_most)
-next_fits h d s short = mul-le-mul (le_trans (div-le_self h d) short) (window_most_lem s)
-
--- what is told of the cycle, and back
-cycle_by :
-    (l : JobList) (short : Bool) → leb (cycle_of l) cycle_most ≡ short
-    → cycle_told l ≡ cond short (row 0 (cycle_of l ∷ [])) (row 8 [])
-unfolding cycle_told
-cycle_by l short e = rw e
-
-pub cycle_short : (l : JobList) {h : ℕ} → h ≡ cycle_of l → h ≤ cycle_most → cycle_told l ≡ row 0 (h ∷ [])
-cycle_short l same short =
-    cycle_by l true (le-leb (cycle_of l) cycle_most (omega arith)) ∙ ap (λ (x : ℕ). row 0 (x ∷ [])) (sym same)
+pub within_long : {h : ℕ} → cycle_most < h → within_told h ≡ row 8 []
+unfolding within_told
+within_long {h} long = grind (arith, nat_tests)
 
 -- a cycle above the limit stays above it, since it divides the next and no cycle is 0
 pub cycle_long :
@@ -151,20 +138,21 @@ pub cycle_long :
 cycle_long l i s listed long =
     let grows : cycle_upto l.jobs i ≤ cycle_of l =
     le_of_dvd (cycle_positive l.jobs l.count s.jobs) (cycle_divides l.jobs i l.count listed) in
-    cycle_by l false (lt-leb (cycle_of l) cycle_most (omega arith))
+    within_long (omega arith)
 
-pub told_short : (l : JobList) {h : ℕ} → row 0 (h ∷ []) ≡ cycle_told l → (h ≡ cycle_of l) × (h ≤ cycle_most)
-told_short l {h} e = go (leb (cycle_of l) cycle_most) refl
-  where
-    go : (short : Bool) → leb (cycle_of l) cycle_most ≡ short → (h ≡ cycle_of l) × (h ≤ cycle_most)
-    go true t =
-        let same : h ≡ cycle_of l = ap (λ (x : Told). get_or x.values 0 0) (e ∙ cycle_by l true t) in
-        (same, omega (arith, leb-true (cycle_of l) cycle_most t))
-    go false t = absurd (apart (e ∙ cycle_by l false t) refl)
+pub told_short : {h x : ℕ} → row 0 (h ∷ []) ≡ within_told x → (h ≡ x) × (h ≤ cycle_most)
+unfolding within_told
+told_short {h} {x} e = grind (arith, nat_tests)
 
-pub told_long : (l : JobList) → row 8 [] ≡ cycle_told l → cycle_most < cycle_of l
-told_long l e = go (leb (cycle_of l) cycle_most) refl
-  where
-    go : (short : Bool) → leb (cycle_of l) cycle_most ≡ short → cycle_most < cycle_of l
-    go true t = absurd (apart (e ∙ cycle_by l true t) refl)
-    go false t = leb-false (cycle_of l) cycle_most t
+pub told_long : (x : ℕ) (r : Refusal) → told r ≡ within_told x → (cycle_most < x) × (told r ≡ row 8 [])
+unfolding within_told
+told_long x r e = grind (arith, nat_tests, not_passed r {values = x ∷ []})
+
+-- from job to job: the next cycle is refused as the list's is
+pub next_refused :
+    (l : JobList) (i : ℕ) {h : ℕ} {j : Job} (r : Refusal) → SoundList l → i < l.count → h ≡ cycle_upto l.jobs i → j ≡ job_at l.jobs i
+    → told r ≡ within_told (lcm h (window_of j)) → told r ≡ cycle_told l
+next_refused l i {h} {j} r s listed same here e =
+    let refused = told_long (lcm h (window_of j)) r e in
+    let next : lcm h (window_of j) ≡ cycle_upto l.jobs (i + 1) = cc (cycle_more l.jobs i) in
+    refused.1 ∙ sym (cycle_long l (i + 1) s (omega arith) (omega (arith, refused.0, next)))

@@ -5,5 +5,4 @@ pub mod LoadLaws
 pub mod AnswerLaws
 pub mod VerdictLaws
 pub mod Meaning
-pub mod LentLaws
 pub mod LentMeaning

@@ -8,9 +8,8 @@ use native.Mathlib.Omega.{arith}
 use lib.ListN.{take}
 use Rattle.job.specs.declared.record.Job.{Job}
 use Rattle.job.specs.declared.list.JobList.{JobList}
-use Rattle.job.specs.Limit.{count_most, cycle_most}
 use Rattle.job.specs.Check.{job_at}
-use Rattle.job.specs.Sound.{SoundJob, SoundBelow, SoundList}
+use Rattle.job.specs.Sound.{SoundJob}
 use Rattle.job.specs.Window.{window_of}
 use Rattle.admission.specs.Load.{share_of, load_upto, load_of}
 use Rattle.admission.specs.Judged.{CommonMultiple, Load}
@@ -30,18 +29,6 @@ load_none jobs h = refl
 pub load_more : (jobs : List Job) (h i : ℕ) → load_upto jobs h (i + 1) ≡ load_upto jobs h i + share_of (job_at jobs i) h
 unfolding load_upto
 load_more jobs h i = ap (load_upto jobs h) (add-one i)
-
-load_most : (jobs : List Job) (h n : ℕ) → SoundBelow jobs n → load_upto jobs h n ≤ n * h
-unfolding load_upto
-load_most jobs h zero s = omega arith
-load_most jobs h (suc n) s =
-    omega (arith, load_most jobs h n (λ i less. s i (omega arith)), share_most h (s n (omega arith)))
-
--- no sum on the way wraps
-pub load_fits :
-    (l : JobList) (h i : ℕ) → SoundList l → h ≤ cycle_most → i ≤ l.count → load_upto l.jobs h i ≤ count_most * cycle_most
-load_fits l h i s short listed =
-    le_trans (load_most l.jobs h i (λ k less. s.jobs k (omega arith))) (mul-le-mul {n₂ = count_most} (omega arith) short)
 
 -- the load as the library's sum, from the first job on
 load_front : (j : Job) (jobs : List Job) (h n : ℕ) → load_upto (j ∷ jobs) h (suc n) ≡ share_of j h + load_upto jobs h n

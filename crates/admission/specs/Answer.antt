@@ -1,13 +1,18 @@
 -- The paper's number and values of what admission answers.
-use Rattle.std.specs.Prelude.{ℕ, Bool, ◌||◌, cond, [], ◌∷◌, eqb, get_or}
-use Rattle.job.specs.Told.{Told, row, told}
-use Rattle.admission.specs.declared.answer.Admission.{Admission}
-use Rattle.admission.specs.declared.answer.Admission.TheVariants.{Admitted, Refused}
+use Rattle.std.specs.Prelude.{ℕ, Bool, ◌||◌, cond, [], ◌∷◌, eqb, get_or, Result, Ok}
+use Rattle.job.specs.declared.refusal.Refusal.{Refusal}
+use Rattle.job.specs.Told.{Told, told_answer}
+use Rattle.admission.specs.declared.answer.Admitted.{Admitted}
+
+abbrev pub Admission : Type 0
+Admission = Result Admitted Refusal
+
+abbrev pub admitted_of : ℕ → ℕ → Admission
+admitted_of h d = Ok (record { cycle = h; load = d })
 
 -- 'Admitted means load ≤ H; cycle and load are both returned.'
 abbrev pub told_admission : Admission → Told
-told_admission (Admitted h d) = row 0 (h ∷ d ∷ [])
-told_admission (Refused r) = told r
+told_admission a = told_answer (λ (x : Admitted). x.cycle ∷ x.load ∷ []) a
 
 -- 'Cycle and load are 0 in each refusal but 9, which returns both.'
 abbrev pub returns_both : Told → Bool

@@ -1,13 +1,12 @@
 -- 'The cycle H is the least common multiple of all kT.'
-use Rattle.std.specs.Prelude.{ℕ, zero, suc, ◌*◌, ◌/◌, cond, List, [], ◌∷◌, leb}
+use Rattle.std.specs.Prelude.{ℕ, zero, suc, ◌*◌, ◌/◌, cond, List, [], ◌∷◌, leb, Result}
 use Rattle.job.specs.declared.record.Job.{Job}
 use Rattle.job.specs.declared.list.JobList.{JobList}
 use Rattle.job.specs.Limit.{cycle_most}
-use Rattle.job.specs.Told.{Told, row}
+use Rattle.job.specs.declared.refusal.Refusal.{Refusal}
+use Rattle.job.specs.Told.{Told, row, told_answer}
 use Rattle.job.specs.Window.{window_of}
 use Rattle.job.specs.Check.{job_at}
-use Rattle.admission.specs.declared.inner.Cycle.{Cycle}
-use Rattle.admission.specs.declared.inner.Cycle.TheVariants.{Of, TooLong}
 use Rattle.admission.specs.Divisor.{gcd}
 
 unfoldable pub lcm : ℕ → ℕ → ℕ
@@ -22,9 +21,11 @@ abbrev pub cycle_of : JobList → ℕ
 cycle_of l = cycle_upto l.jobs l.count
 
 -- '8: cycle over the limit'
-unfoldable pub cycle_told : JobList → Told
-cycle_told l = cond (leb (cycle_of l) cycle_most) (row 0 (cycle_of l ∷ [])) (row 8 [])
+unfoldable pub within_told : ℕ → Told
+within_told h = cond (leb h cycle_most) (row 0 (h ∷ [])) (row 8 [])
 
-abbrev pub told_cycle : Cycle → Told
-told_cycle (Of h) = row 0 (h ∷ [])
-told_cycle TooLong = row 8 []
+abbrev pub cycle_told : JobList → Told
+cycle_told l = within_told (cycle_of l)
+
+abbrev pub told_cycle : Result ℕ Refusal → Told
+told_cycle h = told_answer (λ (x : ℕ). x ∷ []) h

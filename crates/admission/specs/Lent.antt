@@ -1,14 +1,11 @@
 -- 'The admission check reads a lent list of job records, of any length, without changing it.'
-use Rattle.std.specs.Prelude.{ℕ, List, length, set}
+use Rattle.std.specs.Prelude.{ℕ, List, length}
 use Rattle.job.specs.declared.record.Job.{Job}
 use Rattle.job.specs.declared.list.JobList.{JobList}
 use Rattle.job.specs.Told.{Told}
 use Rattle.job.specs.Check.{job_at}
 use Rattle.job.specs.Filled.{list_by}
 use Rattle.admission.specs.Verdict.{verdict_told}
-
-abbrev pub put_job : JobList → ℕ → Job → JobList
-put_job l i j = record { jobs = set l.jobs i j; count = l.count }
 
 -- a list of any length as a list by value
 abbrev pub list_of : List Job → JobList

@@ -4,8 +4,7 @@ use Rattle.std.specs.Prelude.{◌≡◌, List, ℕ, ◌<◌, min, length, get_or
 use Rattle.job.specs.declared.record.Job.{Job}
 use Rattle.job.specs.Limit.{count_most}
 use Rattle.job.specs.Check.{no_job}
-use Rattle.admission.specs.declared.answer.Admission.{Admission}
-use Rattle.admission.specs.Answer.{told_admission}
+use Rattle.admission.specs.Answer.{Admission, told_admission}
 use Rattle.admission.specs.Promise.{VerdictPromise, AdmitPromise, AdmitFirstPromise}
 use Rattle.admission.specs.Meaning.{VerdictRows}
 

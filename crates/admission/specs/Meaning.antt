@@ -1,32 +1,31 @@
 -- What a reader may conclude from the promises of admission, of whatever result they allow. Each statement is proved in proofs/, under its
 -- name.
-use Rattle.std.specs.Prelude.{◌≡◌, ◌↔◌, [], ◌∷◌, ℕ, ◌≤◌, ◌<◌}
+use Rattle.std.specs.Prelude.{◌≡◌, ◌↔◌, [], ◌∷◌, ℕ, ◌≤◌, ◌<◌, Err}
 use Rattle.job.specs.declared.list.JobList.{JobList}
 use Rattle.job.specs.declared.refusal.Refusal.{Refusal}
 use Rattle.job.specs.declared.refusal.Refusal.TheVariants.{Overload}
 use Rattle.job.specs.Limit.{count_most, relaxed, original, cycle_most}
 use Rattle.job.specs.Told.{Told, row}
 use Rattle.job.specs.Sound.{SoundList, LowestFault}
-use Rattle.admission.specs.declared.answer.Admission.{Admission}
-use Rattle.admission.specs.declared.answer.Admission.TheVariants.{Admitted, Refused}
+use Rattle.job.specs.Promise.{AnswerNumberPromise}
 use Rattle.admission.specs.Divisor.{GreatestDivisor}
 use Rattle.admission.specs.Judged.{LeastCommonMultiple, Judged}
-use Rattle.admission.specs.Answer.{told_admission}
-use Rattle.admission.specs.Promise.{AdmissionNumberPromise, CyclePromise, LoadPromise, DivisorPromise, VerdictPromise}
+use Rattle.admission.specs.Answer.{Admission, admitted_of, told_admission}
+use Rattle.admission.specs.Promise.{CyclePromise, LoadPromise, DivisorPromise, VerdictPromise}
 
 -- an answer is determined by the paper's number and values
 abbrev pub AdmissionOneToOne : Type 0
 AdmissionOneToOne = (a b : Admission) → told_admission a ≡ told_admission b → a ≡ b
 
--- `Admission::number`: the row's number, 0 for none
+-- `job::number_of`: the row's number, 0 for none
 abbrev pub AdmissionNumbered : Type 0
-AdmissionNumbered = (a : Admission) (r : ℕ) → AdmissionNumberPromise a r → r ≡ (told_admission a).number
+AdmissionNumbered = (a : Admission) (r : ℕ) → AnswerNumberPromise a r → r ≡ (told_admission a).number
 
 -- 'cycle and load are both returned'; they 'are 0 in each refusal but 9, which returns both'
 pub record Returned (promise : Admission → ℕ → Type 0) (part : ℕ → ℕ → ℕ) : Type 0 where
-  pub admitted : (h d r : ℕ) → promise (Admitted h d) r → r ≡ part h d
-  pub overload : (h d r : ℕ) → promise (Refused (Overload h d)) r → r ≡ part h d
-  pub otherwise : (x : Refusal) (r : ℕ) → ((h d : ℕ) → x ≡ Overload h d → ⊥) → promise (Refused x) r → r ≡ 0
+  pub admitted : (h d r : ℕ) → promise (admitted_of h d) r → r ≡ part h d
+  pub overload : (h d r : ℕ) → promise (Err (Overload h d)) r → r ≡ part h d
+  pub otherwise : (x : Refusal) (r : ℕ) → ((h d : ℕ) → x ≡ Overload h d → ⊥) → promise (Err x) r → r ≡ 0
 
 abbrev pub CycleReturned : Type 0
 CycleReturned = Returned CyclePromise (λ h d. h)

@@ -2,16 +2,12 @@
 use Rattle.std.specs.Prelude.{ℕ, ◌≡◌, List, take}
 use Rattle.job.specs.declared.record.Job.{Job}
 use Rattle.job.specs.declared.list.JobList.{JobList}
-use Rattle.admission.specs.declared.answer.Admission.{Admission}
 use Rattle.admission.specs.Divisor.{GreatestDivisor}
-use Rattle.admission.specs.Answer.{told_admission, cycle_returned, load_returned}
+use Rattle.admission.specs.Answer.{Admission, told_admission, cycle_returned, load_returned}
 use Rattle.admission.specs.Verdict.{verdict_told}
 use Rattle.admission.specs.Lent.{admit_of}
 
--- `Admission::number`, `cycle`, `load`
-abbrev pub AdmissionNumberPromise : Admission → ℕ → Type 0
-AdmissionNumberPromise a r = r ≡ (told_admission a).number
-
+-- `amounts`
 abbrev pub CyclePromise : Admission → ℕ → Type 0
 CyclePromise a r = r ≡ cycle_returned (told_admission a)
 

@@ -4,36 +4,33 @@ ghost use Rattle.admission.specs.Answer.{told_admission};
 ghost use Rattle.admission.specs.Promise.{VerdictPromise};
 ghost use Rattle.admission.specs.Verdict.{judged_told};
 
-use crate::answer::Admission;
-use crate::inner;
-use crate::inner::Cycle;
-use job::{Checked, Job, JobList, Refusal};
+use crate::answer::{Admission, Admitted};
+use crate::inner::{Cycle, common_cycle, load};
+use job::{Job, JobList, Refusal};
 
 // 'Admitted means load ≤ H; cycle and load are both returned.'
-fn judged(cycle: u64, load: u64) -> Admission
+#[tactic(auto, unfolding(crate::specs::Verdict::judged_told))]
+fn judged(cycle: Cycle, load: u32) -> Admission
     ensures { told_admission result ≡ judged_told cycle load }
 {
+    let cycle = u64::from(cycle.slots);
+    let load = u64::from(load);
     if cycle < load {
-        return Admission::Refused(Refusal::Overload { cycle, load });
+        return Err(Refusal::Overload { cycle, load });
     }
-    Admission::Admitted { cycle, load }
+    Ok(Admitted { cycle, load })
 }
 
 pub fn verdict(list: JobList, model: u32) -> Admission
     ensures { VerdictPromise list model result }
 {
     if Job::ORIGINAL < model {
-        return Admission::Refused(Refusal::OrderOrModel);
+        return Err(Refusal::OrderOrModel);
     }
-    let checked = list.check();
-    if let Checked::Refused(refusal) = checked {
-        return Admission::Refused(refusal);
-    }
+    let checked = list.check()?;
     if model == Job::ORIGINAL {
-        return Admission::Refused(Refusal::OriginalModel);
+        return Err(Refusal::OriginalModel);
     }
-    match inner::common_cycle(list) {
-        Cycle::TooLong => Admission::Refused(Refusal::CycleTooLong),
-        Cycle::Of(cycle) => judged(cycle, inner::load(list, cycle)),
-    }
+    let cycle = common_cycle(checked)?;
+    judged(cycle, load(checked, cycle))
 }

@@ -1,71 +1,86 @@
-// Cycle and load of a list whose check has passed. Each asks for that, so that no sum or product
-// can wrap; `verdict` stands above them and asks for nothing.
-ghost use Rattle.std.specs.Prelude.{◌≡◌, ◌≤◌};
+// Cycle and load of a list whose check has passed, so that no sum or product can wrap; `verdict`
+// stands above them and asks for nothing.
+ghost use Rattle.std.specs.Prelude.{◌≡◌, ◌<◌, ◌≤◌};
 ghost use Rattle.job.specs.Limit.{cycle_most};
-ghost use Rattle.job.specs.Sound.{SoundJob, SoundList};
 ghost use Rattle.job.specs.Window.{window_of};
-ghost use Rattle.admission.specs.Cycle.{cycle_told, told_cycle};
+ghost use Rattle.admission.specs.Cycle.{lcm, within_told, cycle_told, told_cycle};
 ghost use Rattle.admission.specs.Load.{share_of, load_of};
 
 use crate::divisor::common_divisor;
-use job::{Job, JobList};
+use job::{CheckedJob, CheckedList, Job, Refusal};
+use std::marker::Model;
 
+// A cycle within its limit; in a clause it is the number of its slots.
 #[derive(Clone, Copy)]
-pub enum Cycle {
-    Of(u64),
-    TooLong,
+pub struct Cycle {
+    pub slots: u32,
 }
 
-// kT, the slots of a job's window.
-fn window(job: Job) -> u64
-    requires { SoundJob job }
-    ensures { result ≡ window_of job }
+impl Model for Cycle {
+    ghost use Rattle.std.specs.Prelude.{ℕ, ◌≤◌};
+    ghost use Rattle.job.specs.Limit.{cycle_most};
+
+    ghost Value = { ℕ };
+
+    ghost view = { λ c. c.slots };
+
+    ghost invariant = { λ c. c.slots ≤ cycle_most };
+
+    ghost inverse = { λ n. record { slots = n } };
+}
+
+impl Cycle {
+    // The least common multiple of the cycle and a job's window.
+    #[tactic(auto, unfolding(crate::specs::Cycle::within_told))]
+    fn joined(self, job: CheckedJob) -> Result<Cycle, Refusal>
+        ensures { told_cycle result ≡ within_told (lcm self (window_of job)) }
+    {
+        let joined = common_multiple(self.slots, job.window());
+        if Job::CYCLE_MOST < joined {
+            return Err(Refusal::CycleTooLong);
+        }
+        Ok(Cycle {
+            slots: joined as u32,
+        })
+    }
+}
+
+fn common_multiple(a: u32, b: u32) -> u64
+    requires { 0 < b }
+    ensures { result ≡ lcm a b }
 {
-    (job.k as u64) * (job.t as u64)
+    let a = u64::from(a);
+    let b = u64::from(b);
+    a / common_divisor(a, b) * b
 }
 
 // mC (H / kT), a job's part of the load of H slots.
-fn share(job: Job, cycle: u64) -> u64
-    requires sound_job { SoundJob job }
-    requires cycle_le_cycle_most { cycle ≤ cycle_most }
-    ensures { result ≡ share_of job cycle }
+fn share(job: CheckedJob, cycle: Cycle) -> u32
+    ensures value { result ≡ share_of job cycle }
+    ensures within { result ≤ cycle_most }
 {
-    (job.m as u64) * (job.c as u64) * (cycle / window(job))
+    job.job.m * job.job.c * (cycle.slots / job.window())
 }
 
 // The least common multiple of all windows. Once it is above the limit it stays so.
-pub(crate) fn common_cycle(list: JobList) -> Cycle
-    requires { SoundList list }
+pub fn common_cycle(list: CheckedList) -> Result<Cycle, Refusal>
     ensures { told_cycle result ≡ cycle_told list }
 {
-    let count = list.count;
-    let mut cycle: u64 = 1;
-    let mut at: usize = 0;
-    while at < count {
-        let job = list.jobs[at];
-        let next = window(job);
-        cycle = cycle / common_divisor(cycle, next) * next;
-        if Job::CYCLE_MOST < cycle {
-            return Cycle::TooLong;
-        }
-        at += 1;
+    let mut cycle = Cycle { slots: 1 };
+    for at in 0..list.list.count {
+        cycle = cycle.joined(list.job(at))?;
     }
-    Cycle::Of(cycle)
+    Ok(cycle)
 }
 
 // The load of a cycle.
-pub(crate) fn load(list: JobList, cycle: u64) -> u64
-    requires sound_list { SoundList list }
-    requires cycle_le_cycle_most { cycle ≤ cycle_most }
+#[tactic(auto, using(crate::proofs::LoadLaws::load_none, crate::proofs::LoadLaws::load_more))]
+pub fn load(list: CheckedList, cycle: Cycle) -> u32
     ensures { result ≡ load_of list cycle }
 {
-    let count = list.count;
-    let mut sum: u64 = 0;
-    let mut at: usize = 0;
-    while at < count {
-        let job = list.jobs[at];
-        sum = sum + share(job, cycle);
-        at += 1;
+    let mut sum: u32 = 0;
+    for at in 0..list.list.count {
+        sum += share(list.job(at), cycle);
     }
     sum
 }

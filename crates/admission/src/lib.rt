@@ -4,9 +4,9 @@
 mod answer;
 mod decide;
 pub mod divisor;
-mod inner;
+pub mod inner;
 mod lent;
 
-pub use answer::Admission;
+pub use answer::{Admission, Admitted, amounts};
 pub use decide::verdict;
 pub use lent::{admit, admit_first};

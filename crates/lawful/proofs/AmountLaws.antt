@@ -7,6 +7,7 @@ use native.Mathlib.Decide.{dec_le}
 use native.Mathlib.Omega.{arith}
 use lib.Dec.{leb}
 use borrow.Author.Tests.{le-leb, lt-leb}
+use Rattle.std.proofs.lemmas.Bool.Decides.{nat_tests}
 
 unfoldable pub amount : ℕ → ℕ → ℕ → ℕ → ℕ → ℕ
 amount window service left lack D = cond (leb left D) (lack + (D - left) / window * service) 0
@@ -23,26 +24,14 @@ module _ (window service : ℕ) where
   -- the same moment seen a slot earlier
   pub amount_shift :
       (left lack D : ℕ) → amount window service left lack D ≡ amount window service (left + 1) lack (D + 1)
-  amount_shift left lack D = go (dec_le left D)
-    where
-      go : Dec (left ≤ D) → amount window service left lack D ≡ amount window service (left + 1) lack (D + 1)
-      go (yes h) =
-          let h' : left + 1 ≤ D + 1 = omega arith in
-          let same : D + 1 - (left + 1) ≡ D - left = omega arith in
-          rw (amount_in lack h, amount_in lack h', same)
-      go (no h) =
-          let out : D < left = omega arith in
-          let out' : D + 1 < left + 1 = omega arith in
-          rw (amount_out lack out, amount_out lack out')
+  unfolding amount
+  amount_shift left lack D = grind (arith, nat_tests)
 
   -- what lacks more has more to do
   pub amount_more :
       (left D : ℕ) {lack more : ℕ} → lack ≤ more → amount window service left lack D ≤ amount window service left more D
-  amount_more left D {lack} {more} few = go (dec_le left D)
-    where
-      go : Dec (left ≤ D) → amount window service left lack D ≤ amount window service left more D
-      go (yes h) = rw (amount_in lack h, amount_in more h) (omega arith)
-      go (no h) = let out : D < left = omega arith in rw (amount_out lack out, amount_out more out) (omega arith)
+  unfolding amount
+  amount_more left D {lack} {more} few = grind (arith, nat_tests)
 
   -- as a window opens
   pub amount_new : (D : ℕ) → 0 < window → amount window service window service D ≡ D / window * service
@@ -56,10 +45,8 @@ module _ (window service : ℕ) where
 
   -- as the last slot of a window begins
   pub amount_last : (lack D : ℕ) → amount window service 1 lack (D + 1) ≡ lack + D / window * service
-  amount_last lack D =
-      let h : 1 ≤ D + 1 = omega arith in
-      let past : D + 1 - 1 ≡ D = omega arith in
-      rw (amount_in lack h, past)
+  unfolding amount
+  amount_last lack D = grind (arith, nat_tests)
 
   -- where the open window lacks no more than its share of the slots left in it, what is due is within its share of D
   pub amount_bound :

@@ -9,6 +9,7 @@ use lib.Dec.{eqb, ltb}
 use lib.ListN.{length, take, drop}
 use lib.Seq.{take-add}
 use borrow.Author.Tests.{ltb-true, ltb-false, eqb-true, eqb-false, lt-ltb, le-ltb}
+use Rattle.std.proofs.lemmas.Bool.Decides.{nat_tests}
 use Rattle.rules.specs.Rules.{count_in, slots_of}
 use Rattle.rules.proofs.BytesLaws.{count_in_append, count_in_high}
 use Rattle.rules.specs.Meaning.{sum_upto}
@@ -21,17 +22,7 @@ given_in n bytes = count_in (λ b. ltb b n) bytes
 given_next : (n : ℕ) (bytes : List ℕ) → given_in (suc n) bytes ≡ given_in n bytes + slots_of n bytes
 unfolding count_in
 given_next n [] = refl
-given_next n (b ∷ bytes) = go (ltb b n) (eqb b n) refl refl (given_next n bytes)
-  where
-    go :
-        (below here : Bool) → ltb b n ≡ below → eqb b n ≡ here → given_in (suc n) bytes ≡ given_in n bytes + slots_of n bytes
-        → cond (ltb b (suc n)) (given_in (suc n) bytes + 1) (given_in (suc n) bytes)
-        ≡ cond below (given_in n bytes + 1) (given_in n bytes) + cond here (slots_of n bytes + 1) (slots_of n bytes)
-    go true true e f rest = absurd (omega (arith, ltb-true b n e, eqb-true b n f))
-    go true false e f rest = rw (lt-ltb b (suc n) (omega (arith, ltb-true b n e))) (omega arith)
-    go false true e f rest = rw (lt-ltb b (suc n) (omega (arith, eqb-true b n f))) (omega arith)
-    go false false e f rest =
-        rw (le-ltb b (suc n) (omega (arith, ltb-false b n e, eqb-false b n f))) rest
+given_next n (b ∷ bytes) = grind (arith, nat_tests, given_next n bytes)
 
 -- slots of different jobs are different slots
 slots_given : (n : ℕ) (bytes : List ℕ) → sum_upto (λ i. slots_of i bytes) n ≤ given_in n bytes

@@ -23,13 +23,8 @@ module _ {f g : ℕ → ℕ} where
       (n j : ℕ) → j < n → ((i : ℕ) → i < n → f i ≤ g i) → f j + 1 ≤ g j → sum_upto f n + 1 ≤ sum_upto g n
   unfolding sum_upto
   sum_less zero j h most less = absurd (omega arith)
-  sum_less (suc n) j h most less = go (ℕ_discrete j n) (λ below. sum_less n j below (λ i l. most i (omega arith)) less)
-    where
-      go : Dec (j ≡ n) → (j < n → sum_upto f n + 1 ≤ sum_upto g n) → sum_upto f n + f n + 1 ≤ sum_upto g n + g n
-      go (yes e) before =
-          let here : f n + 1 ≤ g n = rw e at less in
-          omega (arith, sum_most n (λ i l. most i (omega arith)))
-      go (no ne) before = omega (arith, before (omega arith), most n (omega arith))
+  sum_less (suc n) j h most less =
+      grind (arith, sum_most n (λ i l. most i (omega arith)), most n (omega arith), (λ (below : j < n). sum_less n j below (λ i l. most i (omega arith)) less))
 
 module _ (f : ℕ → ℕ) where
   pub sum_bound :

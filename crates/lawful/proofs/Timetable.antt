@@ -15,7 +15,7 @@ use Rattle.job.specs.declared.list.JobList.{JobList}
 use Rattle.job.specs.Limit.{relaxed}
 use Rattle.job.specs.Check.{job_at}
 use Rattle.job.specs.Window.{window_of}
-use Rattle.admission.specs.declared.answer.Admission.TheVariants.{Admitted}
+use Rattle.admission.specs.Answer.{admitted_of}
 use Rattle.admission.specs.Answer.{told_admission}
 use Rattle.admission.specs.Cycle.{cycle_of}
 use Rattle.admission.specs.Load.{share_of, load_of}
@@ -132,6 +132,6 @@ answer_exactly_if_timetable l h r answers sound cycle short =
           let a : Admits l = exactly.1 t in
           let same : a.0 ≡ h = multiple_unique ((admitted_exactly l relaxed a.0 a.1).0 (sym a.2)).0.cycle cycle in (
             a.1,
-            admission_one_to_one r (Admitted a.0 a.1) (answers ∙ sym a.2) ∙ ap (λ (x : ℕ). Admitted x a.1) same,
+            admission_one_to_one r (admitted_of a.0 a.1) (answers ∙ sym a.2) ∙ ap (λ (x : ℕ). admitted_of x a.1) same,
           ),
     )

@@ -6,6 +6,7 @@ use Prim.Native.Nat.{ℕ, ◌+◌, ◌-◌, ◌*◌, ◌≤◌, ◌<◌}
 use native.Mathlib.Decide.{dec_lt}
 use native.Mathlib.Omega.{arith}
 use borrow.Author.Tests.{lt-ltb}
+use Rattle.std.proofs.lemmas.Bool.Decides.{nat_tests}
 use Rattle.place.specs.declared.setting.Setting.{Setting}
 use Rattle.place.specs.declared.record.Place.{Place}
 use Rattle.place.specs.Setting.{by_units}
@@ -24,21 +25,7 @@ pub not_eligible :
     (setting : Setting) (q : Place) → by_units setting ≡ true → eligible_of setting q ≡ false
     → (q.job.m * q.job.c ≤ q.at.u) ⊎ (q.at.p * q.job.c ≤ q.at.u)
 unfolding eligible_of
-not_eligible setting q units e = go (dec_lt q.at.u (q.job.m * q.job.c)) (dec_lt q.at.u (q.at.p * q.job.c))
-  where
-    go :
-        Dec (q.at.u < q.job.m * q.job.c) → Dec (q.at.u < q.at.p * q.job.c)
-        → (q.job.m * q.job.c ≤ q.at.u) ⊎ (q.at.p * q.job.c ≤ q.at.u)
-    go (yes m) (yes p) =
-        absurd
-        (clash e
-        (rw (
-          units,
-          lt-ltb q.at.u (q.job.m * q.job.c) m,
-          lt-ltb q.at.u (q.at.p * q.job.c) p,
-        )))
-    go (yes m) (no p) = inr (omega arith)
-    go (no m) d = inl (omega arith)
+not_eligible setting q units e = grind (arith, nat_tests)
 
 module _ {setting : Setting} {q : Place} (sound : SoundPlace setting q) where
   -- the periods that follow the open one are still to come after the slot

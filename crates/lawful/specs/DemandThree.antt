@@ -4,8 +4,7 @@ use Rattle.std.specs.Prelude.{ℕ, ◌≤◌, ◌<◌, length, get_or, ◌≡◌
 use Rattle.job.specs.declared.list.JobList.{JobList}
 use Rattle.job.specs.Limit.{relaxed, cycle_most}
 use Rattle.job.specs.Sound.{SoundList}
-use Rattle.admission.specs.declared.answer.Admission.{Admission}
-use Rattle.admission.specs.declared.answer.Admission.TheVariants.{Admitted}
+use Rattle.admission.specs.Answer.{Admission, admitted_of}
 use Rattle.admission.specs.Promise.{VerdictPromise}
 use Rattle.admission.specs.Judged.{LeastCommonMultiple}
 use Rattle.place.specs.declared.setting.Setting.{Setting}
@@ -17,7 +16,7 @@ use Rattle.lawful.specs.Lawful.{Timetable, Lawful, Full}
 
 -- what `verdict` may answer of a list in the relaxed model, by its promise, is an admission
 abbrev pub Admits : JobList → Type 0
-Admits l = (h : ℕ) × (d : ℕ) × VerdictPromise l relaxed (Admitted h d)
+Admits l = (h : ℕ) × (d : ℕ) × VerdictPromise l relaxed (admitted_of h d)
 
 -- a lawful, full timetable of h slots; below, h is the cycle
 pub record CycleTimetable (l : JobList) (h : ℕ) : Type 0 where
@@ -35,7 +34,7 @@ AdmittedExactlyIfTimetable =
 abbrev pub AnswerExactlyIfTimetable : Type 0
 AnswerExactlyIfTimetable =
     (l : JobList) (h : ℕ) (r : Admission) → VerdictPromise l relaxed r → SoundList l → LeastCommonMultiple l h → h ≤ cycle_most
-    → ((d : ℕ) × (r ≡ Admitted h d)) ↔ CycleTimetable l h
+    → ((d : ℕ) × (r ≡ admitted_of h d)) ↔ CycleTimetable l h
 
 -- the second half: 'run in window order from slot 0', where 'order .. 1 is W; model 0 is relaxed'. 'Demand 3 holds with it on or off' (02, Item 1)
 abbrev pub window_order : Bool → Setting

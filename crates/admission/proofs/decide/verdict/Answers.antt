@@ -1,51 +1,38 @@
 -- The tests in the order of the definition. Past the check the list passes, and so is sound; a cycle that is returned is the list's.
-use mathlib.Core.Path.{◌≡◌, sym, ◌∙◌, ap}
+use mathlib.Core.Path.{sym, ◌∙◌, ap₂}
 use native.Mathlib.Omega.{arith}
-use Rattle.job.specs.Told.{told_checked, passed}
-use Rattle.job.specs.Check.{list_told}
+use Rattle.std.proofs.lemmas.Result.{err_from_is_err_and}
 use Rattle.job.proofs.ToldLaws.{told_refuses}
-use Rattle.job.proofs.Meaning.{passes_exactly}
-use Rattle.admission.specs.Cycle.{told_cycle}
-use Rattle.admission.proofs.CycleLaws.{told_short, told_long}
-use Rattle.admission.proofs.VerdictLaws.{verdict_strange, verdict_refused, verdict_original, verdict_long, verdict_judged}
+use Rattle.admission.specs.Load.{load_of}
+use Rattle.admission.specs.Verdict.{judged_told}
+use Rattle.admission.proofs.CycleLaws.{told_short}
+use Rattle.admission.proofs.VerdictLaws.{verdict_strange, verdict_refused, verdict_original, verdict_no_cycle, verdict_judged}
 use Rattle.admission.proofs.decide.verdict.Goals as goal
 
 pub returns-then-model-gt-ORIGINAL : goal.returns-then-model-gt-ORIGINAL
 returns-then-model-gt-ORIGINAL c = sym (verdict_strange c.args.list c.args.model c.if-model-gt-ORIGINAL.true)
 
-pub returns-in-Refused : goal.returns-in-Refused
-returns-in-Refused c =
-    let args = c.args in
-    let told-so = sym c.check-checked.ensures ∙ ap told_checked c.in-Refused.is in
-    sym (verdict_refused args.list args.model c.if-model-gt-ORIGINAL.false told-so (told_refuses c.in-Refused.refusal))
+pub returns-in_err-checked : goal.returns-in_err-checked
+returns-in_err-checked c =
+    let p = err_from_is_err_and c.from_residual.result c.from_residual.ensures.1 in
+    let r = c.in_err-checked.field-0.0 in
+    rw (p.1, p.2)
+    (sym (verdict_refused c.args.list c.args.model c.if-model-gt-ORIGINAL.false (sym c.in_err-checked.ensures.0) (told_refuses r)))
 
 pub returns-then-model-eq-ORIGINAL : goal.returns-then-model-eq-ORIGINAL
 returns-then-model-eq-ORIGINAL c =
-    let passes : list_told c.args.list ≡ passed = sym c.check-checked.ensures ∙ ap told_checked c.in_default.is in
-    sym (verdict_original c.args.list c.args.model passes c.if-model-eq-ORIGINAL.true)
+    sym (verdict_original c.args.list c.args.model (sym c.in_ok-checked.ensures.0) c.if-model-eq-ORIGINAL.true)
 
-pub common_cycle-requires : goal.common_cycle-requires
-common_cycle-requires c =
-    let passes : list_told c.args.list ≡ passed = sym c.check-checked.ensures ∙ ap told_checked c.in_default.is in
-    (passes_exactly c.args.list).0 passes
+pub returns-in_err-cycle : goal.returns-in_err-cycle
+returns-in_err-cycle c =
+    let p = err_from_is_err_and c.from_residual-in_err-cycle.result c.from_residual-in_err-cycle.ensures.1 in
+    rw (p.1, p.2)
+    (sym (verdict_no_cycle c.args.list c.args.model (sym c.in_ok-checked.ensures.0) (omega arith) c.in_err-cycle.field-0.0 (rw c.in_ok-checked.ensures.1 at c.in_err-cycle.ensures)))
 
-pub load-requires-clause-sound_list : goal.load-requires-clause-sound_list
-load-requires-clause-sound_list c =
-    let passes : list_told c.args.list ≡ passed = sym c.check-checked.ensures ∙ ap told_checked c.in_default.is in
-    (passes_exactly c.args.list).0 passes
-
-pub load-requires-clause-cycle_le_cycle_most : goal.load-requires-clause-cycle_le_cycle_most
-load-requires-clause-cycle_le_cycle_most c =
-    (told_short c.args.list (sym (ap told_cycle c.in-Of.is) ∙ c.common_cycle.ensures)).1
-
-pub returns-in-TooLong : goal.returns-in-TooLong
-returns-in-TooLong c =
-    let passes : list_told c.args.list ≡ passed = sym c.check-checked.ensures ∙ ap told_checked c.in_default.is in
-    let long = told_long c.args.list (sym (ap told_cycle c.in-TooLong.is) ∙ c.common_cycle.ensures) in
-    sym (verdict_long c.args.list c.args.model passes (omega arith) long)
-
-pub returns-in-Of : goal.returns-in-Of
-returns-in-Of c =
-    let passes : list_told c.args.list ≡ passed = sym c.check-checked.ensures ∙ ap told_checked c.in_default.is in
-    let cycle = told_short c.args.list (sym (ap told_cycle c.in-Of.is) ∙ c.common_cycle.ensures) in
-    cc (c.judged.ensures, c.load.ensures, verdict_judged c.args.list c.args.model passes (omega arith) (omega arith))
+pub returns : goal.returns
+returns c =
+    let list = c.args.list in
+    let same = c.in_ok-checked.ensures.1 in
+    let cycle = told_short (rw same at c.in_ok-cycle.ensures) in
+    let judged = verdict_judged list c.args.model (sym c.in_ok-checked.ensures.0) (omega arith) (omega (arith, cycle)) in
+    c.judged.ensures ∙ ap₂ judged_told cycle.0 (c.load.ensures ∙ ap₂ load_of same cycle.0) ∙ sym judged

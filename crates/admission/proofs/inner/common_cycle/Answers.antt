@@ -1,44 +1,28 @@
 -- One turn of the code is the cycle of one job more.
-use mathlib.Core.Path.{◌≡◌, sym}
-use Prim.Native.Nat.{◌+◌, ◌<◌}
-use native.Mathlib.Nat.{pos_of_dvd_of_pos}
+use mathlib.Core.Path.{◌≡◌, sym, ◌∙◌, ap, subst}
 use native.Mathlib.Omega.{arith}
-use Rattle.job.specs.Limit.{cycle_most}
-use Rattle.job.specs.Check.{job_at}
-use Rattle.job.specs.Sound.{SoundJob}
-use Rattle.admission.specs.Cycle.{cycle_upto}
-use Rattle.admission.proofs.CycleLaws.{window_positive, cycle_none, cycle_next, next_fits, cycle_short, cycle_long}
+use Rattle.std.proofs.lemmas.Result.{err_from_is_err_and}
+use Rattle.job.specs.Sound.{SoundList}
+use Rattle.admission.specs.Cycle.{cycle_upto, within_told}
+use Rattle.admission.proofs.CycleLaws.{cycle_none, cycle_more, told_short, within_short, next_refused}
 use Rattle.admission.proofs.inner.common_cycle.Goals as goal
 
 pub loop-at-init : goal.loop-at-init
-loop-at-init c = (omega arith, sym (cycle_none c.args.list.jobs), omega arith)
+loop-at-init c = (sym (cycle_none c.args.list.jobs), omega arith)
 
-pub nonzero_div-cycle : goal.nonzero_div-cycle
-nonzero_div-cycle c =
-    let sound : SoundJob (job_at c.args.list.jobs c.loop-at.at) = c.requires.jobs c.loop-at.at (omega arith) in
-    pos_of_dvd_of_pos c.common_divisor.ensures.right (omega (arith, window_positive sound))
-
-pub overflow_mul-cycle : goal.overflow_mul-cycle
-overflow_mul-cycle c =
-    let sound : SoundJob (job_at c.args.list.jobs c.loop-at.at) = c.requires.jobs c.loop-at.at (omega arith) in
-    let within = next_fits c.loop-at.cycle c.common_divisor.result sound c.loop-at.invariant.2 in
-    record { fits = rw c.window-next.ensures (omega arith) }
-
-pub returns-then-cycle-gt-CYCLE_MOST : goal.returns-then-cycle-gt-CYCLE_MOST
-returns-then-cycle-gt-CYCLE_MOST c =
-    let next = cycle_next c.args.list.jobs c.loop-at.at c.loop-at.invariant.1 c.window-next.ensures c.common_divisor.ensures in
-    let long : cycle_most < cycle_upto c.args.list.jobs (c.loop-at.at + 1) = omega (arith, next) in
-    sym (cycle_long c.args.list (c.loop-at.at + 1) c.requires (omega arith) long)
+pub returns-in_err-cycle : goal.returns-in_err-cycle
+returns-in_err-cycle c =
+    let p = err_from_is_err_and c.from_residual.result c.from_residual.ensures.1 in
+    let sound = subst SoundList c.list.view_is c.list.invariant in
+    rw (p.1, p.2)
+    (next_refused c.args.list c.loop-at.at c.in_err-cycle.field-0.0 sound (grind arith) c.loop-at.invariant.0 c.job.ensures c.in_err-cycle.ensures)
 
 pub loop-at-preserved : goal.loop-at-preserved
-loop-at-preserved c = (
-  omega arith,
-  cycle_next c.args.list.jobs c.loop-at.at c.loop-at.invariant.1 c.window-next.ensures c.common_divisor.ensures,
-  c.if-cycle-gt-CYCLE_MOST.false,
-)
+loop-at-preserved c =
+    let next = told_short c.in_ok-cycle.ensures in
+    (cc (next.0, cycle_more c.args.list.jobs c.loop-at.at), next.1)
 
 pub returns : goal.returns
 returns c =
-    let list = c.args.list in
-    let all : c.loop-at.at ≡ list.count = omega arith in
-    sym (cycle_short list (rw all at c.loop-at.invariant.1) c.loop-at.invariant.2)
+    let all : c.loop-at.at ≡ c.args.list.count = grind arith in
+    sym (within_short c.loop-at.invariant.1) ∙ ap within_told (c.loop-at.invariant.0 ∙ ap (cycle_upto c.args.list.jobs) all)

@@ -7,7 +7,7 @@ use native.Mathlib.Omega.{arith}
 use lib.ListN.{length, get_or, take}
 use lib.Seq.{take-suc, take_all}
 use Rattle.job.specs.declared.list.JobList.{JobList}
-use Rattle.job.specs.declared.refusal.Checked.TheVariants.{Passed}
+use Rattle.std.specs.Prelude.{Ok, Err}
 use Rattle.job.specs.declared.refusal.Refusal.TheVariants.{ClockAtLimit}
 use Rattle.job.specs.Sound.{SoundList}
 use Rattle.job.proofs.ToldLaws.{checked_one_to_one}
@@ -18,7 +18,6 @@ use Rattle.run.specs.declared.state.State.{State}
 use Rattle.run.specs.declared.answer.Choice.{Choice}
 use Rattle.run.specs.declared.answer.Choice.TheVariants.{Given, Idle}
 use Rattle.run.specs.declared.answer.Slot.{Slot}
-use Rattle.run.specs.declared.answer.StepAnswer.TheVariants.{Done, Refused}
 use Rattle.run.specs.State.{clock_most, fresh_of}
 use Rattle.run.specs.Slot.{turn_of}
 use Rattle.run.specs.Sound.{SoundState}
@@ -165,10 +164,10 @@ off_keeps l setting jobs allowed off slots state run bytes long = (
 
 pub run_starts : RunStarts
 run_starts l setting jobs allowed r promise =
-    checked_one_to_one r.answer Passed (promise.0 ∙ start_checks l setting allowed ∙ (passes_exactly l).1 jobs)
+    checked_one_to_one r.answer (Ok tt) (promise.0 ∙ start_checks l setting allowed ∙ (passes_exactly l).1 jobs)
 
 pub run_goes_on : RunGoesOn
-run_goes_on l setting jobs allowed slots state run r promise = go (step_view state)
+run_goes_on l setting jobs allowed slots state run r after promise = go (step_view state)
   where
     clock : state.clock ≡ length slots
     clock =
@@ -182,12 +181,12 @@ run_goes_on l setting jobs allowed slots state run r promise = go (step_view sta
 
     go :
         StepView state
-        → (length slots < clock_most → (slot : Slot) × (r.answer ≡ Done slot)) × (length slots ≡ clock_most → r.answer ≡ Refused ClockAtLimit)
+        → (length slots < clock_most → (slot : Slot) × (r ≡ Ok slot)) × (length slots ≡ clock_most → r ≡ Err ClockAtLimit)
     go (out_of_range broken e) = absurd (broken sound)
     go (at_limit good last e) =
-        (λ below. absurd (omega (arith, clock)), λ at. step_one_to_one r.answer (Refused ClockAtLimit) (promise.0 ∙ e))
+        (λ below. absurd (omega (arith, clock)), λ at. step_one_to_one r (Err ClockAtLimit) (promise.0 ∙ e))
     go (goes_on_lem good below e) = (
-      λ h. ((turn_of state).slot, step_one_to_one r.answer (Done (turn_of state).slot) (promise.0 ∙ e)),
+      λ h. ((turn_of state).slot, step_one_to_one r (Ok (turn_of state).slot) (promise.0 ∙ e)),
       λ at. absurd (below (clock ∙ at)),
     )
 
@@ -201,7 +200,7 @@ run_exists l setting jobs allowed n high =
       long = answers_long fresh n;
       run =
           record {
-            started = record { answer = Passed; state = start_state l setting };
+            started = record { answer = Ok tt; state = start_state l setting };
             promise = (sym told, refl);
             passes = refl;
             steps = rw (state_passed l setting told) (steps_exist n fresh (fresh_sound l setting jobs allowed) (omega arith));

@@ -136,7 +136,7 @@ module _ (l : JobList) (setting : Setting) (jobs : SoundList l) (allowed : Allow
       short.1
 
 pub shorts_tagged : ShortsTagged
-shorts_tagged l setting jobs allowed slots state run r promise slot done j =
+shorts_tagged l setting jobs allowed slots state run r after promise slot done j =
     rw (one_slot r promise done).slot_is
     (subst (λ (s : State). Member j (turn_of s).slot.shorts → (given s (turn_of s).slot.choice j).at.tag ≡ true)
     (sym (run_slots run).state_is)

@@ -1,8 +1,8 @@
 -- What the slots of a run are: what `start` and then calls of `step` answer, by their promises, keeps the rules, and nothing else does. Each
 -- statement is proved in proofs/, under its name.
-use Rattle.std.specs.Prelude.{ℕ, zero, suc, ◌+◌, ◌/◌, ◌%◌, ◌^◌, ◌≤◌, ◌<◌, ◌≡◌, ◌↔◌, true, false, cond, List, eqb, ltb, length, get_or, take, drop}
+use Rattle.std.specs.Prelude.{ℕ, zero, suc, ◌+◌, ◌/◌, ◌%◌, ◌^◌, ◌≤◌, ◌<◌, ◌≡◌, ◌↔◌, true, false, cond, List, eqb, ltb, length, get_or, take, drop, Result, Ok, Err}
 use Rattle.job.specs.declared.list.JobList.{JobList}
-use Rattle.job.specs.declared.refusal.Checked.TheVariants.{Passed}
+use Rattle.job.specs.declared.refusal.Refusal.{Refusal}
 use Rattle.job.specs.declared.refusal.Refusal.TheVariants.{ClockAtLimit}
 use Rattle.job.specs.Limit.{count_most}
 use Rattle.job.specs.Sound.{SoundList}
@@ -13,8 +13,6 @@ use Rattle.run.specs.declared.state.State.{State}
 use Rattle.run.specs.declared.answer.Choice.TheVariants.{Given, Idle}
 use Rattle.run.specs.declared.answer.Slot.{Slot}
 use Rattle.run.specs.declared.answer.Started.{Started}
-use Rattle.run.specs.declared.answer.Stepped.{Stepped}
-use Rattle.run.specs.declared.answer.StepAnswer.TheVariants.{Done, Refused}
 use Rattle.run.specs.State.{clock_most}
 use Rattle.run.specs.Promise.{StartPromise, StepPromise}
 use Rattle.run.specs.Calls.{Run, bytes_of}
@@ -99,14 +97,14 @@ OffKeeps =
 abbrev pub RunStarts : Type 0
 RunStarts =
     (l : JobList) (setting : Setting) → SoundList l → Allowed setting → (r : Started) → StartPromise l setting r
-    → r.answer ≡ Passed
+    → r.answer ≡ Ok tt
 
 abbrev pub RunGoesOn : Type 0
 RunGoesOn =
     (l : JobList) (setting : Setting) → SoundList l → Allowed setting → (slots : List Slot) (state : State)
-    → Run l setting slots state → (r : Stepped) → StepPromise state r
-    → (length slots < clock_most → (slot : Slot) × (r.answer ≡ Done slot))
-    × (length slots ≡ clock_most → r.answer ≡ Refused ClockAtLimit)
+    → Run l setting slots state → (r : Result Slot Refusal) (after : State) → StepPromise state r after
+    → (length slots < clock_most → (slot : Slot) × (r ≡ Ok slot))
+    × (length slots ≡ clock_most → r ≡ Err ClockAtLimit)
 
 -- so there is a run of every length up to the clock's limit
 pub record RunOf (l : JobList) (setting : Setting) (n : ℕ) : Type 0 where

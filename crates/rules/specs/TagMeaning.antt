@@ -1,14 +1,13 @@
 -- 'A window that ends untagged is not short, in both models and orders, spare on or off, counted from its opening' (document 02, Item 2), of what
 -- `start` and `step` answer by their promises. Each statement is proved in proofs/, under its name.
-use Rattle.std.specs.Prelude.{ℕ, ◌/◌, ◌%◌, ◌^◌, ◌≤◌, ◌<◌, ◌≡◌, true, List, length, get_or}
+use Rattle.std.specs.Prelude.{ℕ, ◌/◌, ◌%◌, ◌^◌, ◌≤◌, ◌<◌, ◌≡◌, true, List, length, get_or, Result, Ok}
+use Rattle.job.specs.declared.refusal.Refusal.{Refusal}
 use Rattle.job.specs.declared.list.JobList.{JobList}
 use Rattle.job.specs.Sound.{SoundList}
 use Rattle.place.specs.declared.setting.Setting.{Setting}
 use Rattle.place.specs.Sound.{Allowed}
 use Rattle.run.specs.declared.state.State.{State}
 use Rattle.run.specs.declared.answer.Slot.{Slot}
-use Rattle.run.specs.declared.answer.Stepped.{Stepped}
-use Rattle.run.specs.declared.answer.StepAnswer.TheVariants.{Done}
 use Rattle.run.specs.Promise.{StepPromise}
 use Rattle.run.specs.Calls.{Run}
 use Rattle.run.specs.SlotMeaning.{given}
@@ -38,5 +37,5 @@ ShortsTold =
 abbrev pub ShortsTagged : Type 0
 ShortsTagged =
     (l : JobList) (setting : Setting) → SoundList l → Allowed setting → (slots : List Slot) (state : State)
-    → Run l setting slots state → (r : Stepped) → StepPromise state r → (slot : Slot) → r.answer ≡ Done slot → (j : ℕ)
+    → Run l setting slots state → (r : Result Slot Refusal) (after : State) → StepPromise state r after → (slot : Slot) → r ≡ Ok slot → (j : ℕ)
     → Member j slot.shorts → (given state slot.choice j).at.tag ≡ true

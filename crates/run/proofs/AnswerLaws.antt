@@ -4,25 +4,27 @@ use mathlib.Core.Bool.{Bool, true, false, cond}
 use mathlib.Core.Logic.{◌↔◌}
 use mathlib.Core.List.{List, [], ◌∷◌}
 use Prim.Native.Nat.{ℕ, ◌<◌}
+use Rattle.std.specs.Prelude.{Result, Ok, Err}
 use native.Mathlib.Omega.{arith}
 use lib.Dec.{eqb}
 use lib.ListN.{get_or, drop}
-use borrow.Author.Tests.{eqb-true, eqb-false}
+use borrow.Author.Tests.{eqb-true, eqb-false, eq-eqb, ne_eqb}
+use Rattle.job.specs.declared.refusal.Refusal.{Refusal}
+use Rattle.job.specs.declared.refusal.Refusal.TheVariants.{StateOutOfRange, ClockAtLimit}
 use Rattle.job.specs.Told.{Told, row}
 use Rattle.job.proofs.TestLaws.{clash}
-use Rattle.job.proofs.ToldLaws.{one_to_one, row_back, row_back_lem, told_refuses, apart}
+use Rattle.job.proofs.ToldLaws.{one_to_one, answer_one_to_one, apart}
 use Rattle.run.specs.declared.state.State.{State}
 use Rattle.run.specs.declared.answer.Choice.{Choice}
 use Rattle.run.specs.declared.answer.Choice.TheVariants.{Given, Idle}
 use Rattle.run.specs.declared.answer.Slot.{Slot}
-use Rattle.run.specs.declared.answer.StepAnswer.{StepAnswer}
-use Rattle.run.specs.declared.answer.StepAnswer.TheVariants.{Done, Refused}
 use Rattle.run.specs.State.{clock_most}
 use Rattle.run.specs.Slot.{turn_of}
 use Rattle.run.specs.Range.{state_in_range}
 use Rattle.run.specs.Sound.{SoundState}
 use Rattle.run.specs.Answer.{told_choice, told_slot, told_step}
 use Rattle.run.specs.Step.{step_told, step_state}
+use Rattle.run.specs.Promise.{StepPromise}
 use Rattle.run.specs.Meaning.{StepOneToOne, StepTold, StepAnswers}
 use Rattle.run.proofs.RangeLaws.{range_exactly}
 use Rattle.run.proofs.KeepLaws.{turn_keeps_sound}
@@ -44,16 +46,11 @@ slot_back_lem : (a : Slot) → slot_back (told_slot a) ≡ a
 unfolding slot_back
 slot_back_lem a = rw (choice_back_lem a.choice)
 
-step_back : Told → StepAnswer
-step_back t = cond (eqb t.number 0) (Done (slot_back t.values)) (Refused (row_back t))
-
-step_back_lem : (a : StepAnswer) → step_back (told_step a) ≡ a
-unfolding step_back
-step_back_lem (Done a) = ap Done (slot_back_lem a)
-step_back_lem (Refused r) = rw (told_refuses r) (ap Refused (row_back_lem r))
+pub slot_one_to_one : (a b : Slot) → told_slot a ≡ told_slot b → a ≡ b
+slot_one_to_one = one_to_one told_slot slot_back slot_back_lem
 
 pub step_one_to_one : StepOneToOne
-step_one_to_one = one_to_one told_step step_back step_back_lem
+step_one_to_one = answer_one_to_one Slot told_slot slot_one_to_one
 
 -- a step by its two tests
 pub data StepView (s : State) : Type 0 where
@@ -96,20 +93,42 @@ module _ (s : State) where
   unfolding step_state
   state_kept n vs e f = rw (e, f)
 
+-- what is promised at each test
+module _ (s : State) where
+  -- whatever the answer, it decides about the state
+  promised :
+      (r : Result Slot Refusal) → told_step r ≡ step_told s
+      → StepPromise s r (cond (eqb (told_step r).number 0) (turn_of s).state s)
+  unfolding step_state
+  promised r e = (e, ap (λ (t : Told). cond (eqb t.number 0) (turn_of s).state s) e)
+
+  pub refused_ten : state_in_range s ≡ false → StepPromise s (Err StateOutOfRange) s
+  unfolding step_told
+  refused_ten e = promised (Err StateOutOfRange) (rw e)
+
+  module _ (sound : state_in_range s ≡ true) where
+    pub refused_eleven : s.clock ≡ clock_most → StepPromise s (Err ClockAtLimit) s
+    unfolding step_told
+    refused_eleven last = promised (Err ClockAtLimit) (rw (sound, eq-eqb s.clock clock_most last))
+
+    pub steps_on : (s.clock ≡ clock_most → ⊥) → StepPromise s (Ok (turn_of s).slot) (turn_of s).state
+    unfolding step_told
+    steps_on below = promised (Ok (turn_of s).slot) (rw (sound, ne_eqb s.clock clock_most below))
+
 pub step_answers : StepAnswers
-step_answers s r promise = go (step_view s)
+step_answers s r after promise = go (step_view s)
   where
-    ten : (told_step r.answer ≡ row 10 []) ↔ (SoundState s → ⊥)
+    ten : (told_step r ≡ row 10 []) ↔ (SoundState s → ⊥)
     ten = rw promise.0 (row_ten_exactly s)
 
-    eleven : (told_step r.answer ≡ row 11 []) ↔ (SoundState s × (s.clock ≡ clock_most))
+    eleven : (told_step r ≡ row 11 []) ↔ (SoundState s × (s.clock ≡ clock_most))
     eleven = rw promise.0 (row_eleven_exactly s)
 
     -- a refusal is no slot
-    refused : {n : ℕ} → step_told s ≡ row n [] → eqb n 0 ≡ false → (slot : Slot) → r.answer ≡ Done slot → ⊥
+    refused : {n : ℕ} → step_told s ≡ row n [] → eqb n 0 ≡ false → (slot : Slot) → r ≡ Ok slot → ⊥
     refused e f slot d = apart (sym e ∙ sym promise.0 ∙ ap told_step d) f
 
-    go : StepView s → StepTold s r
+    go : StepView s → StepTold s r after
     go (out_of_range broken e) =
         record {
           row_ten = ten;
@@ -127,7 +146,7 @@ step_answers s r promise = go (step_view s)
           keeps = λ none. promise.1 ∙ state_kept s 11 [] e refl;
         }
     go (goes_on_lem good below e) =
-        let slot_is : r.answer ≡ Done (turn_of s).slot = step_one_to_one r.answer (Done (turn_of s).slot) (promise.0 ∙ e) in
+        let slot_is : r ≡ Ok (turn_of s).slot = step_one_to_one r (Ok (turn_of s).slot) (promise.0 ∙ e) in
         let left : s.clock < clock_most = omega (arith, good.clock_high) in
         record {
           row_ten = ten;

@@ -4,14 +4,14 @@ use mathlib.Core.List.{List, [], ◌∷◌, ◌++◌}
 use Prim.Native.Nat.{ℕ, zero, suc, ◌+◌, ◌≤◌, ◌<◌}
 use native.Mathlib.Omega.{arith}
 use lib.ListN.{length, get_or}
+use Rattle.std.specs.Prelude.{Result, Ok}
+use Rattle.job.specs.declared.refusal.Refusal.{Refusal}
 use Rattle.job.specs.declared.list.JobList.{JobList}
-use Rattle.job.specs.Told.{row, told_checked}
+use Rattle.job.specs.Told.{Told, row, told_checked}
 use Rattle.job.proofs.ToldLaws.{apart}
 use Rattle.place.specs.declared.setting.Setting.{Setting}
 use Rattle.run.specs.declared.state.State.{State}
 use Rattle.run.specs.declared.answer.Slot.{Slot}
-use Rattle.run.specs.declared.answer.StepAnswer.TheVariants.{Done}
-use Rattle.run.specs.declared.answer.Stepped.{Stepped}
 use Rattle.run.specs.State.{clock_most, fresh_of}
 use Rattle.run.specs.Slot.{turn_of}
 use Rattle.run.specs.Sound.{SoundState}
@@ -22,7 +22,7 @@ use Rattle.run.specs.Promise.{StepPromise}
 use Rattle.run.specs.Calls.{Steps, no_step, a_step, Run, bytes_of}
 use Rattle.run.proofs.KeepLaws.{turn_keeps_sound}
 use Rattle.run.proofs.StartLaws.{state_passed}
-use Rattle.run.proofs.AnswerLaws.{StepView, out_of_range, at_limit, goes_on_lem, step_view, step_one_to_one, state_done}
+use Rattle.run.proofs.AnswerLaws.{StepView, out_of_range, at_limit, goes_on_lem, step_view, slot_one_to_one, state_done}
 use Rattle.run.proofs.TurnLaws.{next_byte, turn_clock}
 
 -- the slots answered from a state on
@@ -48,22 +48,23 @@ bytes_long [] = refl
 bytes_long (slot ∷ slots) = ap suc (bytes_long slots)
 
 -- what one call does
-pub record OneSlot (s : State) (r : Stepped) (slot : Slot) : Type 0 where
+pub record OneSlot (s : State) (slot : Slot) (next : State) : Type 0 where
   pub sound : SoundState s
   pub below : s.clock < clock_most
   pub slot_is : slot ≡ (turn_of s).slot
-  pub state_is : r.state ≡ (turn_of s).state
+  pub state_is : next ≡ (turn_of s).state
 
-pub one_slot : {s : State} {slot : Slot} (r : Stepped) → StepPromise s r → r.answer ≡ Done slot → OneSlot s r slot
-one_slot {s} {slot} r promise done = go (step_view s)
+pub one_slot :
+    {s next : State} {slot : Slot} (r : Result Slot Refusal) → StepPromise s r next → r ≡ Ok slot → OneSlot s slot next
+one_slot {s} {next} {slot} r promise done = go (step_view s)
   where
     told : step_told s ≡ row 0 (told_slot slot)
     told = sym promise.0 ∙ ap told_step done
 
-    same : {a b : Slot} → told_step (Done a) ≡ told_step (Done b) → a ≡ b
-    same {a} {b} e = let f : Done a ≡ Done b = step_one_to_one (Done a) (Done b) e in cc
+    same : {a b : Slot} → told_step (Ok a) ≡ told_step (Ok b) → a ≡ b
+    same {a} {b} e = slot_one_to_one a b (ap (λ (t : Told). t.values) e)
 
-    go : StepView s → OneSlot s r slot
+    go : StepView s → OneSlot s slot next
     go (out_of_range broken e) = absurd (apart (sym e ∙ told) refl)
     go (at_limit good last e) = absurd (apart (sym e ∙ told) refl)
     go (goes_on_lem good open_still e) =
@@ -142,7 +143,7 @@ steps_exist (suc n) s sound high =
     let below : s.clock < clock_most = omega arith in
     let told = step_done s sound below in
     subst (Steps s ((turn_of s).slot ∷ answers_of (turn_of s).state n)) (after_first s n)
-    (a_step (record { answer = Done (turn_of s).slot; state = (turn_of s).state }) (sym told, sym (state_done s told)) refl
+    (a_step (Ok (turn_of s).slot) (sym told, sym (state_done s told)) refl
     (steps_exist n (turn_of s).state (turn_keeps_sound s sound below) (omega (arith, turn_clock s))))
 
 -- a run is the slots of the list's fresh state

@@ -1,53 +1,21 @@
 -- The fresh state of a list: its places, and that it is sound.
-use mathlib.Core.Path.{◌≡◌, refl, ap}
+use mathlib.Core.Path.{◌≡◌, refl}
 use mathlib.Core.List.{List}
-use Prim.Native.Nat.{ℕ, ◌+◌, min, ◌≤◌, ◌<◌}
-use native.Mathlib.Numerals.{add-one}
+use Prim.Native.Nat.{ℕ, min, ◌≤◌, ◌<◌}
 use native.Mathlib.Omega.{arith}
-use lib.ListN.{set}
 use Rattle.job.specs.declared.record.Job.{Job}
 use Rattle.job.specs.declared.list.JobList.{JobList}
 use Rattle.job.specs.Limit.{count_most}
 use Rattle.job.specs.Sound.{SoundList}
 use Rattle.job.specs.Check.{job_at}
-use Rattle.job.specs.Filled.{filled_upto}
 use Rattle.place.specs.declared.setting.Setting.{Setting}
-use Rattle.place.specs.declared.record.Place.{Place}
 use Rattle.place.specs.Opening.{blank, opened}
 use Rattle.place.specs.Sound.{Allowed}
-use Rattle.run.specs.declared.state.State.{State}
-use Rattle.run.specs.State.{place_at, zeros, fresh_upto, fresh_of}
+use Rattle.run.specs.State.{place_at, fresh_upto, fresh_of}
 use Rattle.run.specs.Sound.{SoundState}
 use Rattle.job.proofs.FilledLaws.{filled_long, filled_at, filled_past}
 use Rattle.place.proofs.PlaceLaws.{opened_sound}
 use Rattle.run.proofs.HereLaws.{places_sound}
-
--- the state with the first n jobs of a list in their places
-abbrev pub opened_upto : JobList → Setting → ℕ → State
-opened_upto l s n =
-    record { setting = s; clock = 0; count = l.count; places = fresh_upto l.jobs n; totals = zeros.totals }
-
-module _ (l : JobList) (s : Setting) {state : State} where
-  pub none_opened :
-      state ≡ zeros
-      → record { setting = s; clock = state.clock; count = l.count; places = state.places; totals = state.totals }
-      ≡ opened_upto l s 0
-  unfolding filled_upto
-  none_opened e =
-      ap (λ (z : State). record { setting = s; clock = z.clock; count = l.count; places = z.places; totals = z.totals }) e
-
-  pub one_more_opened :
-      (i : ℕ) {place : Place} → state ≡ opened_upto l s i → place ≡ opened (job_at l.jobs i)
-      → record {
-        setting = state.setting;
-        clock = state.clock;
-        count = state.count;
-        places = set state.places i place;
-        totals = state.totals;
-      }
-      ≡ opened_upto l s (i + 1)
-  unfolding filled_upto
-  one_more_opened i e f = rw (e, f, add-one)
 
 -- the places
 module _ (jobs : List Job) where

@@ -1,16 +1,16 @@
 -- The ranges of a state: the test of row 10 and the facts of specs/Sound.
-use mathlib.Core.Path.{◌≡◌, refl, ◌∙◌, ap}
+use mathlib.Core.Path.{◌≡◌, refl, sym, ◌∙◌}
 use mathlib.Core.Bool.{Bool, true, false, ◌&&◌}
 use mathlib.Core.Logic.{◌↔◌}
 use mathlib.Core.List.{List}
 use Prim.Native.Nat.{ℕ, zero, suc, ◌+◌, ◌*◌, ◌≤◌, ◌<◌}
-use native.Mathlib.Numerals.{add-one}
 use native.Mathlib.Decide.{dec_lt}
 use native.Mathlib.Omega.{arith}
 use lib.Dec.{leb, ltb, eqb}
 use lib.ListN.{length, get_or-eq_default}
 use borrow.Author.Count.{below_more}
 use borrow.Author.Tests.{ltb-true, ltb-false, leb-true, eqb-true, lt-ltb, le-ltb, le-leb, eq-eqb}
+use Rattle.std.specs.Prelude.{IsTrue, EachIndex}
 use Rattle.job.specs.Limit.{count_most}
 use Rattle.job.specs.Check.{allowed}
 use Rattle.place.specs.declared.setting.Setting.{Setting}
@@ -29,18 +29,6 @@ use Rattle.job.proofs.TestLaws.{both, three, allowed_within, within_allowed}
 use Rattle.place.proofs.Meaning.{allowed_exactly}
 use Rattle.place.proofs.RangeLaws.{place_facts, place_test, blank_facts, blank_test}
 use Rattle.run.proofs.HereLaws.{job_sound, past_blank, places_sound}
-
--- the places, one by one
-module _ (setting : Setting) (count : ℕ) (places : List Place) where
-  pub no_place_lem : places_in_range setting count places 0 ≡ true
-  unfolding places_in_range
-  no_place_lem = refl
-
-  pub one_more_place :
-      (i : ℕ) → places_in_range setting count places (i + 1)
-      ≡ (places_in_range setting count places i && place_in_range setting (ltb i count) (place_at places i))
-  unfolding places_in_range
-  one_more_place i = ap (places_in_range setting count places) (add-one i)
 
 -- an array has 16 places
 pub by_values : (s : State) → length s.places ≡ count_most → state_in_range s ≡ values_in_range s
@@ -63,6 +51,17 @@ module _ (setting : Setting) (count : ℕ) (places : List Place) where
   unfolding places_in_range
   all_places zero each = refl
   all_places (suc n) each = rw (all_places n (λ i h. each i (omega arith))) (each n (omega arith))
+
+  -- a test of each of the 16 places is that of all
+  pub all_tested :
+      length places ≡ count_most → {r : Bool} → IsTrue r ↔ EachIndex places (λ i. tested i ≡ true)
+      → r ≡ places_in_range setting count places count_most
+  all_tested long {r} each = go r (places_in_range setting count places count_most) refl refl
+    where
+      go : (a b : Bool) → r ≡ a → places_in_range setting count places count_most ≡ b → a ≡ b
+      go true b e f = sym (all_places count_most (λ i h. each.0 e i (omega arith))) ∙ f
+      go false true e f = sym e ∙ each.1 (λ i h. each_place count_most f i (omega arith))
+      go false false e f = refl
 
   listed_facts :
       places_in_range setting count places count_most ≡ true → count ≤ count_most → (i : ℕ) → i < count

@@ -9,6 +9,7 @@ use native.Mathlib.Omega.{arith}
 use lib.Dec.{eqb, leb, ltb}
 use lib.IntN.{pos, ◌-ℤ◌}
 use borrow.Author.Tests.{eqb-true, eqb-false, ne_eqb}
+use Rattle.std.specs.Prelude.{Ok}
 use Rattle.place.specs.declared.setting.Setting.{Setting}
 use Rattle.place.specs.declared.record.Place.{Place}
 use Rattle.place.specs.declared.inner.choice.Fraction.{Fraction}
@@ -22,7 +23,6 @@ use Rattle.place.proofs.DistanceLaws.{minus, side, nearer_is, difference_parts, 
 use Rattle.run.specs.declared.state.State.{State}
 use Rattle.run.specs.declared.answer.Choice.{Choice}
 use Rattle.run.specs.declared.answer.Choice.TheVariants.{Given, Idle}
-use Rattle.run.specs.declared.answer.StepAnswer.TheVariants.{Done}
 use Rattle.run.specs.Choice.{chosen_of}
 use Rattle.run.specs.Slot.{choice_of, tags_at, shorts_at, all_moved, turn_of}
 use Rattle.run.specs.Sound.{SoundState}
@@ -278,6 +278,6 @@ module _ (s : State) (sound : SoundState s) where
       }
 
 pub steps_slot : StepsSlot
-steps_slot s sound below r promise =
+steps_slot s sound below r after promise =
     let told = step_done s sound below in
-    ((turn_of s).slot, step_one_to_one r.answer (Done (turn_of s).slot) (promise.0 ∙ told), rw (promise.1 ∙ state_done s told) (slot_done s sound))
+    ((turn_of s).slot, step_one_to_one r (Ok (turn_of s).slot) (promise.0 ∙ told), rw (promise.1 ∙ state_done s told) (slot_done s sound))

@@ -11,7 +11,7 @@ use Rattle.job.specs.Limit.{count_most}
 use Rattle.job.specs.declared.refusal.Refusal.{Refusal}
 use Rattle.job.specs.declared.record.Job.{Job}
 use Rattle.job.specs.declared.list.JobList.{JobList}
-use Rattle.job.specs.declared.refusal.Checked.TheVariants.{Passed}
+use Rattle.std.specs.Prelude.{Ok}
 use Rattle.job.specs.Told.{Told, row, passed, told, told_checked}
 use Rattle.job.specs.Check.{job_at, list_told}
 use Rattle.job.proofs.FilledLaws.{filled_long, filled_past}
@@ -28,7 +28,7 @@ use Rattle.run.specs.Step.{start_told, start_state}
 use Rattle.run.specs.Meaning.{AllZeros, ZerosAll, Opens, FreshOpens, StartAnswers}
 use Rattle.job.proofs.ToldLaws.{told_refuses, apart, checked_one_to_one}
 use Rattle.job.specs.Meaning.{ListRows}
-use Rattle.job.proofs.Meaning.{list_checks, passes_exactly, sound_or, no_other_row}
+use Rattle.job.proofs.Meaning.{list_rows, passes_exactly, sound_or, no_other_row}
 use Rattle.place.specs.Meaning.{place_of_zeros}
 use Rattle.place.proofs.Meaning.{allowed_exactly}
 use Rattle.run.proofs.FreshLaws.{fresh_at, fresh_sound}
@@ -124,21 +124,21 @@ zeros_all r promise = subst AllZeros (sym promise) all_zeros
 
 pub start_answers : StartAnswers
 start_answers l s r promise =
-    let rows : Allowed s → ListRows l (told_checked r.answer) = λ a. list_checks l r.answer (promise.0 ∙ start_checks l s a) in
-    let told : r.answer ≡ Passed → start_told l s ≡ passed = λ p. sym promise.0 ∙ ap told_checked p in
+    let rows : Allowed s → ListRows l (told_checked r.answer) = λ a. subst (ListRows l) (sym (promise.0 ∙ start_checks l s a)) (list_rows l) in
+    let told : r.answer ≡ Ok tt → start_told l s ≡ passed = λ p. sym promise.0 ∙ ap told_checked p in
     record {
       row_fifteen = rw promise.0 (start_row_fifteen l s);
       list_rows = rows;
       passes = (
         λ p. ⊎_elim (λ a. (a, (rows a).passes.0 (ap told_checked p))) (λ e. absurd (apart (sym e ∙ told p) refl)) (allowed_or l s),
-        λ h. checked_one_to_one r.answer Passed ((rows h.0).passes.1 h.1),
+        λ h. checked_one_to_one r.answer (Ok tt) ((rows h.0).passes.1 h.1),
       );
       opens = λ p. subst (Opens l s) (sym (promise.1 ∙ state_passed l s (told p))) (opens l s);
       sound = λ p. subst SoundState (sym promise.1) (start_sound l s (told p));
       zeros =
           λ refused.
           subst AllZeros (sym promise.1)
-          (refused_zeros l s (λ e. refused (checked_one_to_one r.answer Passed (promise.0 ∙ e))));
+          (refused_zeros l s (λ e. refused (checked_one_to_one r.answer (Ok tt) (promise.0 ∙ e))));
     }
 
 -- what stands behind the jobs of a list does not change its start

@@ -1,11 +1,10 @@
 -- The paper's values of a choice, a slot and a step.
-use Rattle.std.specs.Prelude.{ℕ, ◌/◌, ◌%◌, ◌^◌, Bool, List, [], ◌∷◌, eqb}
-use Rattle.job.specs.Told.{Told, row, told}
+use Rattle.std.specs.Prelude.{ℕ, ◌/◌, ◌%◌, ◌^◌, Bool, List, [], ◌∷◌, eqb, Result}
+use Rattle.job.specs.declared.refusal.Refusal.{Refusal}
+use Rattle.job.specs.Told.{Told, told_answer}
 use Rattle.run.specs.declared.answer.Choice.{Choice}
 use Rattle.run.specs.declared.answer.Choice.TheVariants.{Given, Idle}
 use Rattle.run.specs.declared.answer.Slot.{Slot}
-use Rattle.run.specs.declared.answer.StepAnswer.{StepAnswer}
-use Rattle.run.specs.declared.answer.StepAnswer.TheVariants.{Done, Refused}
 
 -- a job's number, or nothing
 abbrev pub told_choice : Choice → List ℕ
@@ -25,6 +24,5 @@ member mask i = eqb (mask / 2 ^ i % 2) 1
 abbrev pub told_slot : Slot → List ℕ
 told_slot a = a.tags ∷ a.shorts ∷ told_choice a.choice
 
-abbrev pub told_step : StepAnswer → Told
-told_step (Done a) = row 0 (told_slot a)
-told_step (Refused r) = told r
+abbrev pub told_step : Result Slot Refusal → Told
+told_step = told_answer told_slot

@@ -1,14 +1,12 @@
--- What a user does with a run: a start, and then calls of `step`, each of the state that the call before it returned. Nothing is known of
+-- What a user does with a run: a start, and then calls of `step`, each of the state that the call before it left. Nothing is known of
 -- the calls but their promises.
-use Rattle.std.specs.Prelude.{◌≡◌, List, [], ◌∷◌, ℕ}
+use Rattle.std.specs.Prelude.{◌≡◌, List, [], ◌∷◌, ℕ, Result, Ok}
+use Rattle.job.specs.declared.refusal.Refusal.{Refusal}
 use Rattle.job.specs.declared.list.JobList.{JobList}
-use Rattle.job.specs.declared.refusal.Checked.TheVariants.{Passed}
 use Rattle.place.specs.declared.setting.Setting.{Setting}
 use Rattle.run.specs.declared.state.State.{State}
 use Rattle.run.specs.declared.answer.Slot.{Slot}
-use Rattle.run.specs.declared.answer.StepAnswer.TheVariants.{Done}
 use Rattle.run.specs.declared.answer.Started.{Started}
-use Rattle.run.specs.declared.answer.Stepped.{Stepped}
 use Rattle.run.specs.Answer.{byte_of}
 use Rattle.run.specs.Promise.{StartPromise, StepPromise}
 
@@ -16,14 +14,14 @@ use Rattle.run.specs.Promise.{StartPromise, StepPromise}
 pub data Steps : State → List Slot → State → Type 0 where
   no_step : {s : State} → Steps s [] s
   a_step :
-      {s t : State} {slot : Slot} {slots : List Slot} (r : Stepped) → StepPromise s r → r.answer ≡ Done slot
-      → Steps r.state slots t → Steps s (slot ∷ slots) t
+      {s next t : State} {slot : Slot} {slots : List Slot} (r : Result Slot Refusal) → StepPromise s r next → r ≡ Ok slot
+      → Steps next slots t → Steps s (slot ∷ slots) t
 
 -- a run of a list: a start that passes, and the steps from there
 pub record Run (l : JobList) (setting : Setting) (slots : List Slot) (state : State) : Type 0 where
   pub started : Started
   pub promise : StartPromise l setting started
-  pub passes : started.answer ≡ Passed
+  pub passes : started.answer ≡ Ok tt
   pub steps : Steps started.state slots state
 
 -- the choices of slots, 'one byte each, 0 to 15 or 255 for idle'

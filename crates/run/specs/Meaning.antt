@@ -1,9 +1,9 @@
 -- What the answers of a start, a step and the states that are made are, for every list, setting and state, whatever result their promises
 -- allow. What the slots of a run are stands in the crate `rules`. Each statement is proved in proofs/, under its name.
-use Rattle.std.specs.Prelude.{◌≡◌, ◌↔◌, Bool, true, false, [], ℕ, ◌≤◌, ◌<◌, length, get_or}
+use Rattle.std.specs.Prelude.{◌≡◌, ◌↔◌, Bool, true, false, [], ℕ, ◌≤◌, ◌<◌, length, get_or, Result, Ok}
 use Rattle.job.specs.declared.list.JobList.{JobList}
 use Rattle.job.specs.Limit.{count_most}
-use Rattle.job.specs.declared.refusal.Checked.TheVariants.{Passed}
+use Rattle.job.specs.declared.refusal.Refusal.{Refusal}
 use Rattle.job.specs.Told.{row, told_checked}
 use Rattle.job.specs.Check.{no_job}
 use Rattle.job.specs.Sound.{SoundList}
@@ -13,10 +13,7 @@ use Rattle.place.specs.Sound.{Allowed}
 use Rattle.place.specs.Meaning.{unserved, place_of_zeros}
 use Rattle.run.specs.declared.state.State.{State}
 use Rattle.run.specs.declared.answer.Slot.{Slot}
-use Rattle.run.specs.declared.answer.StepAnswer.{StepAnswer}
-use Rattle.run.specs.declared.answer.StepAnswer.TheVariants.{Done}
 use Rattle.run.specs.declared.answer.Started.{Started}
-use Rattle.run.specs.declared.answer.Stepped.{Stepped}
 use Rattle.run.specs.State.{clock_most}
 use Rattle.run.specs.Sound.{SoundState}
 use Rattle.run.specs.Answer.{told_step}
@@ -24,7 +21,7 @@ use Rattle.run.specs.Promise.{ZerosPromise, FreshPromise, InRangePromise, StartP
 
 -- an answer is determined by the paper's number and values
 abbrev pub StepOneToOne : Type 0
-StepOneToOne = (a b : StepAnswer) → told_step a ≡ told_step b → a ≡ b
+StepOneToOne = (a b : Result Slot Refusal) → told_step a ≡ told_step b → a ≡ b
 
 -- 'A state is in its ranges when ..': `State::in_range`
 abbrev pub RangeAnswers : Type 0
@@ -68,24 +65,24 @@ FreshOpens = (l : JobList) (s : Setting) (r : State) → FreshPromise l s r → 
 pub record StartTold (l : JobList) (s : Setting) (r : Started) : Type 0 where
   pub row_fifteen : (told_checked r.answer ≡ row 15 []) ↔ (Allowed s → ⊥)
   pub list_rows : Allowed s → ListRows l (told_checked r.answer)
-  pub passes : (r.answer ≡ Passed) ↔ (Allowed s × SoundList l)
-  pub opens : r.answer ≡ Passed → Opens l s r.state
-  pub sound : r.answer ≡ Passed → SoundState r.state
+  pub passes : (r.answer ≡ Ok tt) ↔ (Allowed s × SoundList l)
+  pub opens : r.answer ≡ Ok tt → Opens l s r.state
+  pub sound : r.answer ≡ Ok tt → SoundState r.state
   -- 'A refused start gives the state of all zeros.'
-  pub zeros : (r.answer ≡ Passed → ⊥) → AllZeros r.state
+  pub zeros : (r.answer ≡ Ok tt → ⊥) → AllZeros r.state
 
 abbrev pub StartAnswers : Type 0
 StartAnswers = (l : JobList) (s : Setting) (r : Started) → StartPromise l s r → StartTold l s r
 
 -- `step`: 'A step tests 10, 11'
-pub record StepTold (s : State) (r : Stepped) : Type 0 where
-  pub row_ten : (told_step r.answer ≡ row 10 []) ↔ (SoundState s → ⊥)
-  pub row_eleven : (told_step r.answer ≡ row 11 []) ↔ (SoundState s × (s.clock ≡ clock_most))
-  pub done : ((slot : Slot) × (r.answer ≡ Done slot)) ↔ (SoundState s × (s.clock < clock_most))
+pub record StepTold (s : State) (r : Result Slot Refusal) (after : State) : Type 0 where
+  pub row_ten : (told_step r ≡ row 10 []) ↔ (SoundState s → ⊥)
+  pub row_eleven : (told_step r ≡ row 11 []) ↔ (SoundState s × (s.clock ≡ clock_most))
+  pub done : ((slot : Slot) × (r ≡ Ok slot)) ↔ (SoundState s × (s.clock < clock_most))
   -- row 10 is never given along a run
-  pub sound : SoundState s → SoundState r.state
+  pub sound : SoundState s → SoundState after
   -- 'A refused step ..: a state handed in comes back equal.'
-  pub keeps : ((slot : Slot) → r.answer ≡ Done slot → ⊥) → r.state ≡ s
+  pub keeps : ((slot : Slot) → r ≡ Ok slot → ⊥) → after ≡ s
 
 abbrev pub StepAnswers : Type 0
-StepAnswers = (s : State) (r : Stepped) → StepPromise s r → StepTold s r
+StepAnswers = (s : State) (r : Result Slot Refusal) (after : State) → StepPromise s r after → StepTold s r after

@@ -1,11 +1,12 @@
 -- What each public operation of `run` promises, by name: the contracts say these names, and promises/specs/Unique speaks of them.
-use Rattle.std.specs.Prelude.{◌≡◌, Bool}
+use Rattle.std.specs.Prelude.{◌≡◌, Bool, Result}
+use Rattle.job.specs.declared.refusal.Refusal.{Refusal}
 use Rattle.job.specs.declared.list.JobList.{JobList}
 use Rattle.job.specs.Told.{told_checked}
 use Rattle.place.specs.declared.setting.Setting.{Setting}
 use Rattle.run.specs.declared.state.State.{State}
 use Rattle.run.specs.declared.answer.Started.{Started}
-use Rattle.run.specs.declared.answer.Stepped.{Stepped}
+use Rattle.run.specs.declared.answer.Slot.{Slot}
 use Rattle.run.specs.State.{zeros, fresh_of}
 use Rattle.run.specs.Range.{state_in_range}
 use Rattle.run.specs.Answer.{told_step}
@@ -21,9 +22,9 @@ FreshPromise l s r = r ≡ fresh_of l s
 abbrev pub InRangePromise : State → Bool → Type 0
 InRangePromise s r = r ≡ state_in_range s
 
--- `start`, `step`
+-- `start`; `step`, of a state before it, an answer, and the state after it
 abbrev pub StartPromise : JobList → Setting → Started → Type 0
 StartPromise l s r = (told_checked r.answer ≡ start_told l s) × (r.state ≡ start_state l s)
 
-abbrev pub StepPromise : State → Stepped → Type 0
-StepPromise s r = (told_step r.answer ≡ step_told s) × (r.state ≡ step_state s)
+abbrev pub StepPromise : State → Result Slot Refusal → State → Type 0
+StepPromise s r after = (told_step r ≡ step_told s) × (after ≡ step_state s)

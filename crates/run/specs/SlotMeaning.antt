@@ -1,6 +1,7 @@
 -- One slot of any state that row 10 lets in, also of one that no run reaches ('One slot, in order'), told by the state's own counters: no
 -- search, no sign. What the slots of a run from a start are stands in the crate `rules`. The statement is proved in proofs/, under its name.
-use Rattle.std.specs.Prelude.{ℕ, zero, suc, ◌+◌, ◌-◌, ◌*◌, ◌/◌, ◌%◌, ◌^◌, ◌≤◌, ◌<◌, ◌≡◌, ◌↔◌, Bool, true, false, ◌&&◌, ◌||◌, not, cond, leb, ltb, eqb, length, get_or}
+use Rattle.std.specs.Prelude.{ℕ, zero, suc, ◌+◌, ◌-◌, ◌*◌, ◌/◌, ◌%◌, ◌^◌, ◌≤◌, ◌<◌, ◌≡◌, ◌↔◌, Bool, true, false, ◌&&◌, ◌||◌, not, cond, leb, ltb, eqb, length, get_or, Result, Ok}
+use Rattle.job.specs.declared.refusal.Refusal.{Refusal}
 use Rattle.job.specs.Limit.{count_most}
 use Rattle.place.specs.declared.setting.Setting.{Setting}
 use Rattle.place.specs.declared.record.Place.{Place}
@@ -9,8 +10,6 @@ use Rattle.run.specs.declared.state.State.{State}
 use Rattle.run.specs.declared.answer.Choice.{Choice}
 use Rattle.run.specs.declared.answer.Choice.TheVariants.{Given, Idle}
 use Rattle.run.specs.declared.answer.Slot.{Slot}
-use Rattle.run.specs.declared.answer.StepAnswer.TheVariants.{Done}
-use Rattle.run.specs.declared.answer.Stepped.{Stepped}
 use Rattle.run.specs.State.{clock_most}
 use Rattle.run.specs.Sound.{SoundState}
 use Rattle.run.specs.Best.{None, Picked}
@@ -152,5 +151,5 @@ module _ (s : State) where
 -- a step of a state in its ranges and below the clock's limit is done, as above
 abbrev pub StepsSlot : Type 0
 StepsSlot =
-    (s : State) → SoundState s → s.clock < clock_most → (r : Stepped) → StepPromise s r
-    → (slot : Slot) × (r.answer ≡ Done slot) × SlotDone s slot r.state
+    (s : State) → SoundState s → s.clock < clock_most → (r : Result Slot Refusal) (after : State) → StepPromise s r after
+    → (slot : Slot) × (r ≡ Ok slot) × SlotDone s slot after

@@ -1,8 +1,9 @@
-// What a slot, a step and a start answer. A state holds an array, so it stands beside the enum.
+// What a slot and a start answer.
 use crate::state::State;
-use job::{Checked, Refusal};
+use job::Refusal;
 
-#[derive(Clone, Copy)]
+// 'the choice, a job or idle': an enum and no `Option`, as document 01 names the form.
+#[derive(Clone, Copy, Debug, PartialEq, Eq)]
 pub enum Choice {
     Given(usize),
     Idle,
@@ -10,27 +11,16 @@ pub enum Choice {
 
 // 'The answer for a slot holds the choice, a job or idle, beside the set of jobs first tagged in
 // their window and the set whose window ended short': bit j of a mask is job j.
-#[derive(Clone, Copy)]
+#[derive(Clone, Copy, Debug, PartialEq, Eq)]
 pub struct Slot {
     pub choice: Choice,
     pub tags: u16,
     pub shorts: u16,
 }
 
-#[derive(Clone, Copy)]
-pub enum StepAnswer {
-    Done(Slot),
-    Refused(Refusal),
-}
-
-#[derive(Clone, Copy)]
-pub struct Stepped {
-    pub answer: StepAnswer,
-    pub state: State,
-}
-
+// 'A refused start gives the state of all zeros': it stands beside the answer.
 #[derive(Clone, Copy)]
 pub struct Started {
-    pub answer: Checked,
+    pub answer: Result<(), Refusal>,
     pub state: State,
 }

@@ -3,11 +3,13 @@
 #![tactic(auto)]
 
 mod answer;
+mod checked;
 pub mod inner;
 mod range;
 mod state;
 mod steps;
 
-pub use answer::{Choice, Slot, Started, StepAnswer, Stepped};
+pub use answer::{Choice, Slot, Started};
+pub use checked::CheckedState;
 pub use state::{State, Totals};
 pub use steps::{start, step};

@@ -1,11 +1,12 @@
-// The state of a run: a setting, the clock, the places of the jobs, and the totals.
+// The state of a run: a setting, the clock, the places of the jobs, and the totals. How many places are
+// in use is a field of its own: a state of any content can be handed in, and is refused by row 10.
 ghost use Rattle.run.specs.Promise.{ZerosPromise, FreshPromise, InRangePromise};
 
 use crate::range;
 use job::JobList;
 use place::{Place, Setting};
 
-#[derive(Clone, Copy)]
+#[derive(Clone, Copy, Debug, PartialEq, Eq)]
 pub struct Totals {
     pub given: u32,
     pub idle: u32,
@@ -13,7 +14,7 @@ pub struct Totals {
     pub shorts: u64,
 }
 
-#[derive(Clone, Copy)]
+#[derive(Clone, Copy, Debug, PartialEq, Eq)]
 pub struct State {
     pub setting: Setting,
     pub clock: u32,
@@ -46,21 +47,20 @@ impl State {
         }
     }
 
-    // The fresh state of a list: every window opens at slot 0. Places past the last job are zeros.
+    // The fresh state of a list, which stands beside its setting as document 01 hands them over: every window opens at slot 0. Places past the last job are zeros.
     pub fn fresh(list: JobList, setting: Setting) -> State
         ensures { FreshPromise list setting result }
     {
-        let mut state = State::zeros();
-        state.setting = setting;
-        state.count = list.count;
-        let count = list.count;
-        let mut at: usize = 0;
-        while (at < count) & (at < JobList::COUNT_MOST) {
-            let place = Place::opened(list.jobs[at]);
-            state.places[at] = place;
-            at += 1;
+        let mut places = [Place::blank(); JobList::COUNT_MOST];
+        for at in 0..list.count.min(JobList::COUNT_MOST) {
+            places[at] = Place::opened(list.jobs[at]);
         }
-        state
+        State {
+            setting,
+            count: list.count,
+            places,
+            ..State::zeros()
+        }
     }
 
     // Row 10: whether the state is in its ranges, whatever it holds.

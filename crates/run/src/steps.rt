@@ -1,20 +1,20 @@
 // Starting a run, and one slot of it, for every list, setting and state.
-ghost use Rattle.std.specs.Prelude.{◌≡◌};
+ghost use Rattle.std.specs.Prelude.{◌≡◌, Err};
 ghost use Rattle.run.specs.State.{zeros};
 ghost use Rattle.run.specs.Promise.{StartPromise, StepPromise};
 
-use crate::answer::{Started, StepAnswer, Stepped};
-use crate::inner;
+use crate::answer::{Slot, Started};
+use crate::checked::CheckedState;
 use crate::state::State;
-use job::{Checked, JobList, Refusal};
+use job::{JobList, Refusal};
 use place::Setting;
 
 // 'A refused start gives the state of all zeros.'
-fn not_started(answer: Checked) -> Started
-    ensures { (result.answer ≡ answer) × (result.state ≡ zeros) }
+fn not_started(refusal: Refusal) -> Started
+    ensures { (result.answer ≡ Err refusal) × (result.state ≡ zeros) }
 {
     Started {
-        answer,
+        answer: Err(refusal),
         state: State::zeros(),
     }
 }
@@ -24,41 +24,28 @@ pub fn start(list: JobList, setting: Setting) -> Started
     ensures { StartPromise list setting result }
 {
     if !setting.allowed() {
-        return not_started(Checked::Refused(Refusal::OrderOrModel));
+        return not_started(Refusal::OrderOrModel);
     }
-    let answer = list.check();
-    if let Checked::Refused(_) = answer {
-        return not_started(answer);
-    }
-    let state = State::fresh(list, setting);
-    Started { answer, state }
-}
-
-// A refused step returns the state that it was handed.
-fn not_stepped(state: State, refusal: Refusal) -> Stepped
-    ensures { (result.answer ≡ StepAnswer.Refused refusal) × (result.state ≡ state) }
-{
-    Stepped {
-        answer: StepAnswer::Refused(refusal),
-        state,
+    match list.check() {
+        Err(refusal) => not_started(refusal),
+        Ok(_) => Started {
+            answer: Ok(()),
+            state: State::fresh(list, setting),
+        },
     }
 }
 
-// Tests 10, 11.
-pub fn step(state: State) -> Stepped
-    ensures { StepPromise state result }
+// Tests 10, 11. Refused, it leaves the state as it came.
+pub fn step(state: &mut State) -> Result<Slot, Refusal>
+    ensures { StepPromise state.old result state.new }
 {
     if !state.in_range() {
-        return not_stepped(state, Refusal::StateOutOfRange);
+        return Err(Refusal::StateOutOfRange);
     }
     if state.clock == State::CLOCK_MOST {
-        return not_stepped(state, Refusal::ClockAtLimit);
+        return Err(Refusal::ClockAtLimit);
     }
-    let turned = inner::slot::turn(state);
-    let slot = turned.slot;
-    let next = turned.state;
-    Stepped {
-        answer: StepAnswer::Done(slot),
-        state: next,
-    }
+    let turned = CheckedState { state: *state }.turn();
+    *state = turned.state;
+    Ok(turned.slot)
 }

@@ -16,7 +16,7 @@ use Rattle.place.specs.declared.inner.service.Outcome.{Outcome}
 use Rattle.place.specs.declared.inner.choice.Held.{Held}
 use Rattle.place.specs.Opening.{blank}
 use Rattle.place.specs.Place.{moved_of}
-use Rattle.place.specs.Choice.{SmallHeld, candidate_of, no_place, nobody, better_of}
+use Rattle.place.specs.Choice.{candidate_of, no_place, nobody, better_of}
 use Rattle.place.specs.Sound.{SoundPlace}
 use Rattle.run.specs.declared.state.Totals.{Totals}
 use Rattle.run.specs.declared.state.State.{State}
@@ -27,7 +27,6 @@ use Rattle.run.specs.Sound.{SoundState}
 use Rattle.run.specs.Answer.{byte_of}
 use Rattle.run.specs.Run.{after_slots, choices_of}
 use Rattle.place.proofs.PlaceLaws.{moved_sound}
-use Rattle.place.proofs.BoundLaws.{better_small, nobody_small}
 use Rattle.run.proofs.HereLaws.{job_sound}
 use Rattle.run.proofs.SlotLaws.{placed_length, placed_now, place_more, count_high, count_more}
 use Rattle.run.proofs.ChoiceLaws.{ChoiceView, none_chosen, one_chosen, choice_view, chosen_candidate}
@@ -44,10 +43,10 @@ pub record Ready (setting : Setting) (count : ℕ) (places : List Place) (chosen
 pub record Passing
     (setting : Setting) (before : List Place) (chosen count : ℕ) (places : List Place) (best : Held) (tagged short i : ℕ) : Type 0
   where
+    pub ready : Ready setting count before chosen
     pub within : i ≤ count
     pub places_are : places ≡ places_upto setting before chosen i
     pub best_is : best ≡ held_upto setting places i
-    pub best_small : SmallHeld best
     pub tagged_is : tagged ≡ count_upto (tags_at setting before chosen) i
     pub short_is : short ≡ count_upto (shorts_at setting before chosen) i
 
@@ -71,43 +70,42 @@ held_next setting places i q h =
     rw (held_below setting places i q i (omega arith), same))
 
 module _ (setting : Setting) (before : List Place) (chosen count : ℕ) where
-  pub pass_starts : {best : Held} → best ≡ nobody → Passing setting before chosen count before best 0 0 0
+  pub pass_starts :
+      {best : Held} → Ready setting count before chosen → best ≡ nobody → Passing setting before chosen count before best 0 0 0
   unfolding places_upto count_upto held_upto
-  pass_starts e =
+  pass_starts ready e =
       record {
+        ready = ready;
         within = omega arith;
         places_are = refl;
         best_is = e;
-        best_small = rw e nobody_small;
         tagged_is = refl;
         short_is = refl;
       }
 
-  module _
-      (ready : Ready setting count before chosen) {places : List Place} {best : Held} {tagged short i : ℕ}
-      (p : Passing setting before chosen count places best tagged short i) where
-    pub pass_counts : (tagged ≤ count_most) × (short ≤ count_most)
-    pass_counts =
-        let few = ready.few in
-        let within = p.within in (
-          rw p.tagged_is (omega (arith, count_high (tags_at setting before chosen) i)),
-          rw p.short_is (omega (arith, count_high (shorts_at setting before chosen) i)),
-        )
+module _
+    {setting : Setting} {before : List Place} {chosen count : ℕ} {places : List Place} {best : Held} {tagged short i : ℕ}
+    (p : Passing setting before chosen count places best tagged short i) where
+  pub pass_counts : (tagged ≤ count_most) × (short ≤ count_most)
+  pass_counts =
+      let few = p.ready.few in
+      let within = p.within in (
+        rw p.tagged_is (omega (arith, count_high (tags_at setting before chosen) i)),
+        rw p.short_is (omega (arith, count_high (shorts_at setting before chosen) i)),
+      )
 
-  module _
-      (ready : Ready setting count before chosen) {places : List Place} {best : Held} {tagged short i : ℕ}
-      (p : Passing setting before chosen count places best tagged short i) (listed : i < count) where
-    pass_reads : place_at places i ≡ place_at before i
-    pass_reads = placed_now setting before chosen i p.places_are
+  pass_reads : place_at places i ≡ place_at before i
+  pass_reads = placed_now setting before chosen i p.places_are
 
-    pass_long : length places ≡ count_most
-    pass_long = ap length p.places_are ∙ placed_length setting before chosen i ∙ ready.long
+  pass_long : length places ≡ count_most
+  pass_long = ap length p.places_are ∙ placed_length setting before chosen i ∙ p.ready.long
 
+  module _ (listed : i < count) where
     pub pass_sound : SoundPlace setting (place_at places i)
-    pass_sound = rw pass_reads (ready.sound i listed)
+    pass_sound = rw pass_reads (p.ready.sound i listed)
 
     pub pass_fair : eqb i chosen ≡ true → candidate_of setting (place_at places i) ≡ true
-    pass_fair e = rw pass_reads (ready.fair i listed (eqb-true i chosen e))
+    pass_fair e = rw pass_reads (p.ready.fair i listed (eqb-true i chosen e))
 
     module _ {o : Outcome} (moves : o ≡ moved_of setting (place_at places i) (eqb i chosen)) where
       pub pass_moved_sound : SoundPlace setting o.place
@@ -121,26 +119,24 @@ module _ (setting : Setting) (before : List Place) (chosen count : ℕ) where
           let here : o ≡ moved_at setting before chosen i =
           moves ∙ ap (λ (q : Place). moved_of setting q (eqb i chosen)) pass_reads in
           record {
+            ready = p.ready;
             within = omega arith;
             places_are = place_more setting before chosen i p.places_are here;
             best_is =
                 b
                 ∙ ap (λ (h : Held). better_of setting h i o.place) p.best_is
-                ∙ sym (held_next setting places i o.place (omega (arith, pass_long, ready.few)));
-            best_small = rw b (better_small best pass_moved_sound p.best_small i);
+                ∙ sym (held_next setting places i o.place (omega (arith, pass_long, p.ready.few)));
             tagged_is = count_more (tags_at setting before chosen) i (ap (λ (x : Outcome). x.tagged) here) p.tagged_is t;
             short_is = count_more (shorts_at setting before chosen) i (ap (λ (x : Outcome). x.short) here) p.short_is s;
           }
 
-pub pass_done :
-    {setting : Setting} {before : List Place} {chosen count : ℕ} {places : List Place} {best : Held} {tagged short i : ℕ}
-    → Passing setting before chosen count places best tagged short i → i ≡ count
-    → Passing setting before chosen count places best tagged short count
-pass_done {setting} {before} {chosen} {count} {places} {best} {tagged} {short} p e =
-    subst (λ (n : ℕ). Passing setting before chosen count places best tagged short n) e p
+  pub pass_done : i ≡ count → Passing setting before chosen count places best tagged short count
+  pass_done e = subst (Passing setting before chosen count places best tagged short) e p
 
 -- n slots of the buffer are written
 pub record Filling (s : State) (len : ℕ) (buf : List ℕ) (places : List Place) (totals : Totals) (chosen n : ℕ) : Type 0 where
+  pub sound : SoundState s
+  pub room : s.clock + len ≤ clock_most
   pub within : n ≤ len
   pub long : length buf ≡ len
   pub places_are : places ≡ (after_slots s n).places
@@ -149,10 +145,20 @@ pub record Filling (s : State) (len : ℕ) (buf : List ℕ) (places : List Place
   pub written : take n buf ≡ choices_of s n
 
 pub fill_starts :
-    (s : State) (buf : List ℕ) {chosen : ℕ} → chosen ≡ chosen_of s → Filling s (length buf) buf s.places s.totals chosen 0
+    {s : State} → SoundState s → (buf : List ℕ) → s.clock + length buf ≤ clock_most → {chosen : ℕ} → chosen ≡ chosen_of s
+    → Filling s (length buf) buf s.places s.totals chosen 0
 unfolding after_slots choices_of
-fill_starts s buf e =
-    record { within = omega arith; long = refl; places_are = refl; totals_are = refl; chosen_is = e; written = refl }
+fill_starts sound buf room e =
+    record {
+      sound = sound;
+      room = room;
+      within = omega arith;
+      long = refl;
+      places_are = refl;
+      totals_are = refl;
+      chosen_is = e;
+      written = refl;
+    }
 
 chosen_high : (g : State) → g.count ≤ count_most → chosen_of g ≤ no_place
 chosen_high g few = go (chosen_of g) (choice_view g)
@@ -183,10 +189,10 @@ module _ (g : State) where
   turn_byte = refl
 
 module _
-    (s : State) (sound : SoundState s) (len : ℕ) (room : s.clock + len ≤ clock_most) {buf : List ℕ} {places : List Place}
-    {totals : Totals} {chosen n : ℕ} (f : Filling s len buf places totals chosen n) where
+    {s : State} {len : ℕ} {buf : List ℕ} {places : List Place} {totals : Totals} {chosen n : ℕ}
+    (f : Filling s len buf places totals chosen n) where
   here_sound : SoundState (after_slots s n)
-  here_sound = after_sound s sound n (let h = f.within in omega arith)
+  here_sound = after_sound s f.sound n (omega (arith, f.within, f.room))
 
   pub fill_chosen : chosen ≤ no_place
   fill_chosen = rw f.chosen_is (chosen_high (after_slots s n) here_sound.count.high)
@@ -194,7 +200,7 @@ module _
   pub fill_ready : Ready s.setting s.count places chosen
   fill_ready =
       record {
-        few = sound.count.high;
+        few = f.sound.count.high;
         long = ap length f.places_are ∙ here_sound.long;
         sound =
             λ i h.
@@ -203,13 +209,13 @@ module _
         fair =
             λ i h e.
             subst (λ (x : Setting). candidate_of x (place_at places i) ≡ true) (after_setting s n)
-            (rw f.places_are (chosen_candidate (after_slots s n) i (omega (arith, sound.count.high)) (e ∙ f.chosen_is)));
+            (rw f.places_are (chosen_candidate (after_slots s n) i (omega (arith, f.sound.count.high)) (e ∙ f.chosen_is)));
       }
 
   pub fill_totals : n < len → (totals.given + totals.idle < clock_most) × (totals.tags ≤ sets_most * clock_most) × (totals.shorts ≤ sets_most * clock_most)
   fill_totals h =
       let g = here_sound in
-      rw f.totals_are (omega (arith, g.slots, g.tags_high, g.shorts_high, after_clock s n))
+      rw f.totals_are (omega (arith, g.slots, g.tags_high, g.shorts_high, after_clock s n, f.room))
 
   pub fill_more :
       {places' : List Place} {best : Held} {tagged short : ℕ} {byte : ℕ} {totals' : Totals} → n < len
@@ -221,6 +227,8 @@ module _
       let moved : places' ≡ (turn_of g).state.places =
       cc (p.places_are, f.places_are, f.chosen_is, after_setting s n, after_count s n, turn_places g) in
       record {
+        sound = f.sound;
+        room = f.room;
         within = omega arith;
         long = length-set buf n byte ∙ f.long;
         places_are = rw (after_more s n) moved;
@@ -237,30 +245,22 @@ module _
             shown ∙ cc (f.written, last, choices_more s n);
       }
 
--- the whole buffer is written
-module _
-    (s : State) {len : ℕ} {buf : List ℕ} {places : List Place} {totals : Totals} {chosen n : ℕ}
-    (f : Filling s len buf places totals chosen n) (all : n ≡ len) where
-  pub done_state :
-      ◌≡◌ {A = State}
-      (record { setting = s.setting; clock = s.clock + n; count = s.count; places = places; totals = totals })
-      (after_slots s len)
-  done_state =
-      subst
-      (λ (x : ℕ).
-      ◌≡◌ {A = State}
-      (record { setting = s.setting; clock = s.clock + n; count = s.count; places = places; totals = totals })
-      (after_slots s x))
-      all
-      (λ dim.
-      record {
-        setting = sym (after_setting s n) dim;
-        clock = sym (after_clock s n) dim;
-        count = sym (after_count s n) dim;
-        places = f.places_are dim;
-        totals = f.totals_are dim;
-      })
+  -- the whole buffer is written
+  module _ (all : n ≡ len) where
+    pub done_state :
+        ◌≡◌ {A = State}
+        (record { setting = s.setting; clock = s.clock + length buf; count = s.count; places = places; totals = totals })
+        (after_slots s len)
+    done_state =
+        rw (f.long, ← all)
+        (λ dim.
+        record {
+          setting = sym (after_setting s n) dim;
+          clock = sym (after_clock s n) dim;
+          count = sym (after_count s n) dim;
+          places = f.places_are dim;
+          totals = f.totals_are dim;
+        })
 
-  pub done_bytes : buf ≡ choices_of s len
-  done_bytes =
-      sym (take_all n buf (omega (arith, f.long))) ∙ f.written ∙ ap (choices_of s) all
+    pub done_bytes : buf ≡ choices_of s len
+    done_bytes = sym (take_all n buf (omega (arith, f.long))) ∙ f.written ∙ ap (choices_of s) all

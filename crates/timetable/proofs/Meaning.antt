@@ -8,15 +8,15 @@ use native.Mathlib.Omega.{arith}
 use lib.Dec.{leb, eqb}
 use lib.ListN.{length, take, drop}
 use borrow.Author.Tests.{leb-true, leb-false}
-use Rattle.job.specs.declared.refusal.Checked.TheVariants.{Passed}
+use Rattle.std.specs.Prelude.{Ok}
 use Rattle.job.specs.Told.{Told, row, passed, told_checked}
-use Rattle.job.proofs.ToldLaws.{checked_one_to_one}
 use Rattle.job.proofs.TestLaws.{clash}
 use Rattle.run.specs.declared.state.State.{State}
 use Rattle.run.specs.State.{clock_most}
 use Rattle.run.specs.Range.{state_in_range}
 use Rattle.run.specs.Sound.{SoundState}
 use Rattle.run.specs.Run.{after_slots, choices_of}
+use Rattle.job.proofs.ToldLaws.{checked_one_to_one}
 use Rattle.run.proofs.RangeLaws.{range_exactly}
 use Rattle.run.proofs.CallLaws.{answers_of, answers_long, steps_slots, steps_exist}
 use Rattle.text.specs.Written.{written}
@@ -242,12 +242,12 @@ choices_written s bytes offset n room =
     }
 
 pub write_answers : WriteAnswers
-write_answers s before offset n r after promise =
+write_answers s before offset n r next after promise =
     let len = length before in
     let exactly = writes_exactly s len offset n in
-    let told : r.answer ≡ Passed → write_told s len offset n ≡ passed = λ p. sym promise.0 ∙ ap told_checked p in
-    let passes : write_told s len offset n ≡ passed → r.answer ≡ Passed = λ e. checked_one_to_one r.answer Passed (promise.0 ∙ e) in
-    let as-made : (write_state s len offset n ≡ s) × (write_bytes s before offset n ≡ before) → (r.state ≡ s) × (after ≡ before) =
+    let told : r ≡ Ok tt → write_told s len offset n ≡ passed = λ p. sym promise.0 ∙ ap told_checked p in
+    let passes : write_told s len offset n ≡ passed → r ≡ Ok tt = λ e. checked_one_to_one r (Ok tt) (promise.0 ∙ e) in
+    let as-made : (write_state s len offset n ≡ s) × (write_bytes s before offset n ≡ before) → (next ≡ s) × (after ≡ before) =
     λ h. (promise.1 ∙ h.0, promise.2 ∙ h.1) in
     record {
       row_ten = rw promise.0 (row_ten_exactly s len offset n);
@@ -264,7 +264,7 @@ write_answers s before offset n r after promise =
     }
 
 pub written_twice : WrittenTwice
-written_twice s before half after all offset n m first second whole once more both passes =
+written_twice s middle last end before half after all offset n m first second whole once more both passes =
     let room = (writes_exactly s (length before) offset (n + m)).0 (sym both.0 ∙ ap told_checked passes) in
     let same = twice s before offset n m room in (
       more.1

@@ -4,4 +4,4 @@
 mod inner;
 mod writer;
 
-pub use writer::{Written, write};
+pub use writer::write;

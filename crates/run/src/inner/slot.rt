@@ -1,17 +1,16 @@
 // One slot of a sound state below the clock's limit.
 ghost use Rattle.std.specs.Prelude.{◌≡◌, cond, ◌+◌, ◌^◌, ◌<◌};
 ghost use Rattle.run.specs.State.{clock_most};
-ghost use Rattle.run.specs.Sound.{SoundState};
 ghost use Rattle.run.specs.Choice.{chosen_of};
 ghost use Rattle.run.specs.Slot.{choice_of, all_moved, counted_of, turn_of};
 
 use crate::answer::{Choice, Slot};
-use crate::inner::choice::choose;
+use crate::checked::CheckedState;
 use crate::state::{State, Totals};
 use job::JobList;
 use place::Place;
 use place::inner::choice::Held;
-use place::inner::service::moved;
+use place::inner::sound::Sound;
 
 #[derive(Clone, Copy)]
 pub struct Turned {
@@ -19,7 +18,8 @@ pub struct Turned {
     pub state: State,
 }
 
-// The places after the slot; the masks of the two sets, and how many jobs each has.
+// The places after the slot; the masks of the two sets, and how many jobs each has (`all_moved` of
+// specs/Slot has both: the totals are sums of the second, and need no bits counted).
 #[derive(Clone, Copy)]
 pub struct Outcomes {
     pub places: [Place; JobList::COUNT_MOST],
@@ -37,6 +37,8 @@ fn plus_if(b: bool, x: u32, more: u32) -> u32
     if b { x + more } else { x }
 }
 
+#[tactic(auto, unfolding(crate::specs::Slot::choice_of))]
+// No `From<usize>`: which number is nobody's is known here alone.
 fn choice_of(at: usize) -> Choice
     ensures { result ≡ choice_of at }
 {
@@ -62,54 +64,58 @@ pub fn counted(totals: Totals, idle: bool, tagged: u32, short: u32) -> Totals
     }
 }
 
-// Every place moved on by the slot, which the place at number `at` is given.
-fn all_moved(state: State, at: usize) -> Outcomes
-    requires sound_state { SoundState state }
-    requires at_value { at ≡ chosen_of state }
-    ensures { result ≡ all_moved state.setting state.places state.count at }
-{
-    let places = state.places;
-    let mut all = Outcomes {
-        places,
-        tags: 0,
-        shorts: 0,
-        tagged: 0,
-        short: 0,
-    };
-    let mut one: u32 = 1;
-    let mut i: usize = 0;
-    while i < state.count {
-        let q = moved(state.setting, all.places[i], i == at);
-        let place = q.place;
-        all.places[i] = place;
-        all.tags = plus_if(q.tagged, all.tags, one);
-        all.shorts = plus_if(q.short, all.shorts, one);
-        all.tagged = plus_if(q.tagged, all.tagged, 1);
-        all.short = plus_if(q.short, all.short, 1);
-        one = one * 2;
-        i += 1;
+impl CheckedState {
+    // Every place moved on by the slot, which the place at number `at` is given.
+    #[tactic(auto, using(crate::proofs::MovingLaws::moving_bounded))]
+    fn all_moved(self, at: usize) -> Outcomes
+        requires { at ≡ chosen_of self }
+        ensures { result ≡ all_moved self.setting self.places self.count at }
+    {
+        let places = self.state.places;
+        let mut all = Outcomes {
+            places,
+            tags: 0,
+            shorts: 0,
+            tagged: 0,
+            short: 0,
+        };
+        let mut one: u32 = 1;
+        for i in 0..self.state.count {
+            let sound = Sound {
+                setting: self.state.setting,
+                place: all.places[i],
+            };
+            let q = sound.moved(i == at);
+            all.places[i] = q.place;
+            all.tags = plus_if(q.tagged, all.tags, one);
+            all.shorts = plus_if(q.short, all.shorts, one);
+            all.tagged = plus_if(q.tagged, all.tagged, 1);
+            all.short = plus_if(q.short, all.short, 1);
+            // Doubled and not shifted: the law of a mask goes by the next bit.
+            one *= 2;
+        }
+        all
     }
-    all
-}
 
-pub(crate) fn turn(state: State) -> Turned
-    requires sound_state { SoundState state }
-    requires clock_lt_clock_most { state.clock < clock_most }
-    ensures { result ≡ turn_of state }
-{
-    let at = choose(state);
-    let all = all_moved(state, at);
-    let idle = at == Held::NO_PLACE;
-    let slot = Slot {
-        choice: choice_of(at),
-        tags: all.tags as u16,
-        shorts: all.shorts as u16,
-    };
-    let totals = counted(state.totals, idle, all.tagged, all.short);
-    let places = all.places;
-    let mut next = state;
-    next.clock = state.clock + 1;
-    next.places = places;
-    next.totals = totals;
-    Turned { slot, state: next }
+    pub(crate) fn turn(self) -> Turned
+        requires { self.clock < clock_most }
+        ensures { result ≡ turn_of self }
+    {
+        let at = self.choose();
+        let all = self.all_moved(at);
+        let state = self.state;
+        let slot = Slot {
+            choice: choice_of(at),
+            tags: all.tags as u16,
+            shorts: all.shorts as u16,
+        };
+        let places = all.places;
+        let next = State {
+            clock: state.clock + 1,
+            places,
+            totals: counted(state.totals, at == Held::NO_PLACE, all.tagged, all.short),
+            ..state
+        };
+        Turned { slot, state: next }
+    }
 }

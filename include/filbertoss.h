@@ -65,7 +65,7 @@
 #define FILBERTOSS_NEVER 4294967295u
 
 /* Bytes of stack that a call needs: measured, not proved, and rounded up. filbertoss_below needs most,
- * filbertoss_fill less than two thirds of it, filbertoss_admit less than an eighth. That is with memcpy
+ * filbertoss_fill less than two thirds of this number, filbertoss_admit less than an eighth. That is with memcpy
  * and memset bound: linked statically, or with -Wl,-z,now. Else the first call of the program also needs
  * the stack that the loader takes to look them up, some kilobytes that depend on the processor. */
 #define FILBERTOSS_STACK_BYTES 6144

@@ -1,36 +1,32 @@
 -- The answers read back from the bytes: each byte's place, the numbers that four bytes make, and how large the numbers are.
 use mathlib.Core.Path.{◌≡◌, refl, sym, ap, subst, ◌∙◌}
 use mathlib.Core.Logic.{◌↔◌}
-use mathlib.Core.List.{List, ◌++◌}
-use Prim.Native.Nat.{ℕ, zero, suc, ◌+◌, ◌-◌, ◌*◌, ◌^◌, ◌≤◌, ◌<◌}
-use native.Mathlib.Nat.{add-zero, div-le_self}
-use native.Mathlib.Decide.{ℕ_discrete, dec_lt}
+use mathlib.Core.List.{List, [], ◌∷◌, ◌++◌}
+use Prim.Native.Nat.{ℕ, zero, suc, ◌+◌, ◌*◌, ◌/◌, ◌%◌, ◌^◌, ◌≤◌, ◌<◌}
+use native.Mathlib.Nat.{div-le_self}
+use native.Mathlib.Decide.{ℕ_discrete}
 use native.Mathlib.Omega.{arith}
-use lib.ListN.{length, get_or, drop, length-append, get_or-append}
+use lib.ListN.{length, get_or, drop, get_or-append}
 use lib.Seq.{get_or-append-add}
+use Rattle.std.specs.Prelude.{Option, None, Some}
 use Rattle.job.specs.declared.record.Job.{Job}
 use Rattle.job.specs.declared.list.JobList.{JobList}
 use Rattle.job.specs.Limit.{count_most, cycle_most}
-use Rattle.job.specs.Told.{passed}
 use Rattle.job.specs.Check.{job_at}
 use Rattle.job.specs.Window.{window_of}
 use Rattle.job.proofs.FilledLaws.{filled_at}
 use Rattle.admission.specs.Cycle.{cycle_of}
 use Rattle.text.specs.Word.{word_bytes}
 use Rattle.text.specs.Written.{written}
-use Rattle.text.proofs.WordLaws.{word_long, word_reads_back, word_bytes_lem}
+use Rattle.text.proofs.WordLaws.{word_reads_back}
 use Rattle.text.proofs.WrittenLaws.{written_length}
 use Rattle.text.proofs.WrittenParts.{written_rest}
 use Rattle.place.specs.declared.setting.Setting.{Setting}
 use Rattle.run.specs.State.{fresh_of}
-use Rattle.shortfall.specs.declared.inner.Tally.{Tally}
-use Rattle.shortfall.specs.declared.answer.First.{First}
-use Rattle.shortfall.specs.declared.answer.First.TheVariants.{Never, Slot}
 use Rattle.shortfall.specs.declared.answer.Below.{Below}
 use Rattle.shortfall.specs.Tally.{no_tally, tally_of, tally_at, tallies_of}
-use Rattle.shortfall.specs.Shortfall.{first_of, below_of, none_below, shortfall_told, shortfall_jobs}
-use Rattle.shortfall.proofs.TallyLaws.{tally_high, tally_first}
-use Rattle.shortfall.proofs.JudgeLaws.{never_first, some_first, judged_answer}
+use Rattle.shortfall.specs.Shortfall.{below_of, none_below, cycle_judged}
+use Rattle.shortfall.proofs.TallyLaws.{FirstIs, short_in, tally_high, tally_first}
 use Rattle.entry.specs.Below.{first_number, answer_bytes, answers_upto}
 use Rattle.entry.specs.BelowMeaning.{word_at, AnswerStands}
 use Rattle.entry.proofs.BelowLaws.{answers_long}
@@ -54,142 +50,113 @@ answers_at jobs (suc n) i k h few = go (ℕ_discrete i n) (λ less. answers_at j
         get_or-append (answers_upto jobs n) (answer_bytes (get_or jobs n none_below)) 0 (i * 12 + k) (omega (arith, answers_long jobs n))
         ∙ earlier (omega arith)
 
--- four bytes make a number
-word_stands :
-    (bytes : List ℕ) (at x : ℕ) → x < 2 ^ 32 → ((k : ℕ) → k < 4 → get_or bytes (at + k) 0 ≡ get_or (word_bytes x) k 0) → word_at bytes at ≡ x
-word_stands bytes at x fits each =
-    let here : get_or bytes at 0 ≡ get_or (word_bytes x) 0 0 = ap (λ (n : ℕ). get_or bytes n 0) (sym (add-zero at)) ∙ each 0 (omega arith) in
-    let one = each 1 (omega arith) in
-    let two = each 2 (omega arith) in
-    let three = each 3 (omega arith) in
-    omega (arith, word_reads_back x fits)
+-- every byte of an answer is one
+abbrev Bytes : List ℕ → Type 0
+Bytes [] = Unit {0}
+Bytes (x ∷ text) = (x < 256) × Bytes text
 
--- the three numbers of one job
-module _ (a : Below) where
-  abbrev one : List ℕ
-  one = word_bytes a.windows
+byte_under : (text : List ℕ) → Bytes text → (k : ℕ) → get_or text k 0 < 256
+byte_under [] bytes k = omega arith
+byte_under (x ∷ text) bytes zero = bytes.0
+byte_under (x ∷ text) bytes (suc k) = byte_under text bytes.1 k
 
-  abbrev two : List ℕ
-  two = word_bytes a.short
+under : (x : ℕ) → x % 256 < 256
+under x = omega arith
 
-  abbrev three : List ℕ
-  three = word_bytes (first_number a.first)
+all_bytes : (a : Below) → Bytes (answer_bytes a)
+unfolding answer_bytes word_bytes
+all_bytes a = search (under, tt) depth 20
 
-  both_long : length (one ++ two) ≡ 8
-  both_long = length-append one two ∙ omega (arith, word_long a.windows, word_long a.short)
+-- a first slot below the number for never
+abbrev Early : Option ℕ → Type 0
+Early first = (n : ℕ) → first ≡ Some n → n < 4294967295
 
-  first_four : (k : ℕ) → k < 4 → get_or (answer_bytes a) k 0 ≡ get_or one k 0
-  unfolding answer_bytes
-  first_four k h =
-      get_or-append (one ++ two) three 0 k (omega (arith, both_long))
-      ∙ get_or-append one two 0 k (omega (arith, word_long a.windows))
+first_fits : (first : Option ℕ) → Early first → first_number first < 2 ^ 32
+first_fits None early = omega arith
+first_fits (Some n) early = omega (arith, early n refl)
 
-  next_four : (k : ℕ) → k < 4 → get_or (answer_bytes a) (4 + k) 0 ≡ get_or two k 0
-  unfolding answer_bytes
-  next_four k h =
-      get_or-append (one ++ two) three 0 (4 + k) (omega (arith, both_long))
-      ∙ ap (λ (n : ℕ). get_or (one ++ two) (n + k) 0) (sym (word_long a.windows))
-      ∙ get_or-append-add one two k 0
+first_never : (first : Option ℕ) → Early first → (first_number first ≡ 4294967295) ↔ (first ≡ None)
+first_never None early = (λ e. refl, λ e. refl)
+first_never (Some n) early = (λ e. absurd (omega (arith, early n refl)), λ e. cc)
 
-  last_four : (k : ℕ) → k < 4 → get_or (answer_bytes a) (8 + k) 0 ≡ get_or three k 0
-  unfolding answer_bytes
-  last_four k h =
-      ap (λ (n : ℕ). get_or (one ++ two ++ three) (n + k) 0) (sym both_long)
-      ∙ get_or-append-add (one ++ two) three k 0
-
-  all_bytes : (k : ℕ) → k < 12 → get_or (answer_bytes a) k 0 < 256
-  all_bytes k h = go (dec_lt k 4) (dec_lt k 8)
-    where
-      go : Dec (k < 4) → Dec (k < 8) → get_or (answer_bytes a) k 0 < 256
-      go (yes low) _ = subst (λ (x : ℕ). x < 256) (sym (first_four k low)) (word_bytes_lem a.windows k low)
-      go (no high) (yes low) =
-          let at : 4 + (k - 4) ≡ k = omega arith in
-          subst (λ (x : ℕ). x < 256) (sym (ap (λ (n : ℕ). get_or (answer_bytes a) n 0) (sym at) ∙ next_four (k - 4) (omega arith)))
-          (word_bytes_lem a.short (k - 4) (omega arith))
-      go (no high) (no higher) =
-          let at : 8 + (k - 8) ≡ k = omega arith in
-          subst (λ (x : ℕ). x < 256) (sym (ap (λ (n : ℕ). get_or (answer_bytes a) n 0) (sym at) ∙ last_four (k - 8) (omega arith)))
-          (word_bytes_lem (first_number a.first) (k - 8) (omega arith))
-
--- numbers of 32 bits, and a first slot below the number for never
+-- numbers of 32 bits
 record Small (a : Below) : Type 0 where
   windows : a.windows < 2 ^ 32
   short : a.short < 2 ^ 32
-  first : (n : ℕ) → a.first ≡ Slot n → n < 4294967295
+  first : Early a.first
 
-abbrev Early : First → Type 0
-Early f = (n : ℕ) → f ≡ Slot n → n < 4294967295
+-- an answer in the twelve bytes from `at` on
+module _
+    (bytes : List ℕ) (at : ℕ) (a : Below) (each : (k : ℕ) → k < 12 → get_or bytes (at + k) 0 ≡ get_or (answer_bytes a) k 0)
+  where
+    byte : {n : ℕ} (k : ℕ) → n ≡ at + k → k < 12 → get_or bytes n 0 ≡ get_or (answer_bytes a) k 0
+    byte k same h = ap (λ (x : ℕ). get_or bytes x 0) same ∙ each k h
 
-first_fits : (f : First) → Early f → first_number f < 2 ^ 32
-first_fits Never early = omega arith
-first_fits (Slot n) early = omega (arith, early n refl)
+    -- four of its bytes make a number
+    word :
+        {n : ℕ} (o x : ℕ) → n ≡ at + o → o + 3 < 12 → x < 2 ^ 32
+        → get_or (answer_bytes a) o 0 ≡ x % 256 → get_or (answer_bytes a) (o + 1) 0 ≡ x / 256 % 256
+        → get_or (answer_bytes a) (o + 2) 0 ≡ x / 65536 % 256 → get_or (answer_bytes a) (o + 3) 0 ≡ x / 16777216 % 256
+        → word_at bytes n ≡ x
+    unfolding word_bytes
+    word {n} o x same h fits is₀ is₁ is₂ is₃ =
+        let first = byte {n = n} o same (omega arith) ∙ is₀ in
+        let second = byte {n = n + 1} (o + 1) (omega arith) (omega arith) ∙ is₁ in
+        let third = byte {n = n + 2} (o + 2) (omega arith) (omega arith) ∙ is₂ in
+        let fourth = byte {n = n + 3} (o + 3) (omega arith) (omega arith) ∙ is₃ in
+        omega (arith, word_reads_back x fits)
 
-first_never : (f : First) → Early f → (first_number f ≡ 4294967295) ↔ (f ≡ Never)
-first_never Never early = (λ e. refl, λ e. refl)
-first_never (Slot n) early =
-    (λ e. absurd (omega (arith, early n refl)), λ e. let z : ◌≡◌ {A = ℕ} 0 1 = cc in absurd (omega arith))
-
-answer_stands :
-    (bytes : List ℕ) (at : ℕ) (a : Below) → Small a → ((k : ℕ) → k < 12 → get_or bytes (at + k) 0 ≡ get_or (answer_bytes a) k 0)
-    → AnswerStands bytes at a
-answer_stands bytes at a small each =
-    let later : (o k : ℕ) → o + k < 12 → get_or bytes (at + o + k) 0 ≡ get_or (answer_bytes a) (o + k) 0 =
-    λ o k h. let same : at + o + k ≡ at + (o + k) = omega arith in ap (λ (n : ℕ). get_or bytes n 0) same ∙ each (o + k) h in
-    let first : word_at bytes (at + 8) ≡ first_number a.first =
-    word_stands bytes (at + 8) (first_number a.first) (first_fits a.first small.first) (λ k h. later 8 k (omega arith) ∙ last_four a k h) in
-    record {
-      windows = word_stands bytes at a.windows small.windows (λ k h. each k (omega arith) ∙ first_four a k h);
-      short = word_stands bytes (at + 4) a.short small.short (λ k h. later 4 k (omega arith) ∙ next_four a k h);
-      never = subst (λ (x : ℕ). (x ≡ 4294967295) ↔ (a.first ≡ Never)) (sym first) (first_never a.first small.first);
-      first = λ n e. first ∙ ap first_number e;
-      bytes_all = λ i h. subst (λ (x : ℕ). x < 256) (sym (each i h)) (all_bytes a i h);
-    }
+    answer_stands : Small a → AnswerStands bytes at a
+    unfolding answer_bytes word_bytes
+    answer_stands small =
+        let first = word {n = at + 8} 8 (first_number a.first) refl (omega arith) (first_fits a.first small.first) refl refl refl refl in
+        record {
+          windows = word 0 a.windows (omega arith) (omega arith) small.windows refl refl refl refl;
+          short = word 4 a.short refl (omega arith) small.short refl refl refl refl;
+          never = subst (λ (x : ℕ). (x ≡ 4294967295) ↔ (a.first ≡ None)) (sym first) (first_never a.first small.first);
+          first = λ n e. first ∙ ap first_number e;
+          bytes_all = λ i h. subst (λ (x : ℕ). x < 256) (sym (each i h)) (byte_under (answer_bytes a) (all_bytes a) i);
+        }
 
 -- how large the numbers of a cycle are
-tally_small :
-    (job : Job) (h : ℕ) (t : Tally) → h ≤ cycle_most → t.short ≤ h → (0 < t.short → t.first < h) → Small (below_of job h t)
-tally_small job h t short counted earliest =
-    record { windows = omega (arith, div-le_self h (window_of job)); short = omega arith; first = early (ℕ_discrete t.short 0) }
-  where
-    early : Dec (t.short ≡ 0) → Early (first_of t)
-    early (yes none) n e =
-        let never = never_first t none in
-        let z : ◌≡◌ {A = ℕ} 0 1 = cc in
-        absurd (omega arith)
-    early (no some) n e =
-        let is = some_first t some in
-        let same : n ≡ t.first = cc in
-        omega (arith, earliest (omega arith))
+module _ (l : JobList) (s : Setting) (few : l.count ≤ count_most) (short : cycle_of l ≤ cycle_most) where
+  tally_small : (job : Job) (i : ℕ) → Small (below_of job (cycle_of l) (tally_of (fresh_of l s) i (cycle_of l)))
+  tally_small job i =
+      let h = cycle_of l in
+      let fresh = fresh_of l s in
+      let first : FirstIs (short_in fresh i) h (tally_of fresh i h).first = tally_first fresh i h in
+      record {
+        windows = omega (arith, div-le_self h (window_of job));
+        short = omega (arith, tally_high fresh i h);
+        first = λ n e. omega (arith, (subst (FirstIs (short_in fresh i) h) e first).below);
+      }
 
-module _ (l : JobList) (s : Setting) (told : shortfall_told l s ≡ passed) (few : l.count ≤ count_most) (short : cycle_of l ≤ cycle_most) where
-  answers_small : (i : ℕ) → i < l.count → Small (get_or (shortfall_jobs l s) i none_below)
+  answers_small : (i : ℕ) → i < l.count → Small (get_or (cycle_judged l s).jobs i none_below)
   answers_small i h =
       let fresh = fresh_of l s in
       let cycle = cycle_of l in
       let tally : tally_at (tallies_of fresh cycle) i ≡ tally_of fresh i cycle =
       filled_at no_tally (λ j. tally_of fresh j cycle) l.count i h few in
-      let is : get_or (shortfall_jobs l s) i none_below ≡ below_of (job_at l.jobs i) cycle (tally_of fresh i cycle) =
-      ap (λ (x : List Below). get_or x i none_below) (judged_answer l s told).1
-      ∙ filled_at none_below (λ j. below_of (job_at l.jobs j) cycle (tally_at (tallies_of fresh cycle) j)) l.count i h few
+      let is : get_or (cycle_judged l s).jobs i none_below ≡ below_of (job_at l.jobs i) cycle (tally_of fresh i cycle) =
+      filled_at none_below (λ j. below_of (job_at l.jobs j) cycle (tally_at (tallies_of fresh cycle) j)) l.count i h few
       ∙ ap (below_of (job_at l.jobs i) cycle) tally in
-      subst Small (sym is)
-      (tally_small (job_at l.jobs i) cycle (tally_of fresh i cycle) short (tally_high fresh i cycle)
-      (λ some. (tally_first fresh i cycle some).below))
+      subst Small (sym is) (tally_small (job_at l.jobs i) i)
 
   -- the bytes as they are written
   module _ (before : List ℕ) (room : l.count * 12 ≤ length before) where
     abbrev text : List ℕ
-    text = answers_upto (shortfall_jobs l s) l.count
+    text = answers_upto (cycle_judged l s).jobs l.count
 
     text_long : length text ≡ l.count * 12
-    text_long = answers_long (shortfall_jobs l s) l.count
+    text_long = answers_long (cycle_judged l s).jobs l.count
 
-    pub each_stands : (i : ℕ) → i < l.count → AnswerStands (written before 0 text) (i * 12) (get_or (shortfall_jobs l s) i none_below)
+    pub each_stands : (i : ℕ) → i < l.count → AnswerStands (written before 0 text) (i * 12) (get_or (cycle_judged l s).jobs i none_below)
     each_stands i h =
-        answer_stands (written before 0 text) (i * 12) (get_or (shortfall_jobs l s) i none_below) (answers_small i h)
+        answer_stands (written before 0 text) (i * 12) (get_or (cycle_judged l s).jobs i none_below)
         (λ k few_bytes.
         get_or-append text (drop (0 + length text) before) 0 (i * 12 + k) (omega (arith, text_long))
-        ∙ answers_at (shortfall_jobs l s) l.count i k h few_bytes)
+        ∙ answers_at (cycle_judged l s).jobs l.count i k h few_bytes)
+        (answers_small i h)
 
     pub behind_stays : drop (l.count * 12) (written before 0 text) ≡ drop (l.count * 12) before
     behind_stays =

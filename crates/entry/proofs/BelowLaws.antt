@@ -6,21 +6,25 @@ use Prim.Native.Nat.{ℕ, zero, suc, ◌+◌, ◌*◌, ◌%◌, ◌≤◌, ◌<�
 use native.Mathlib.Numerals.{add-one}
 use native.Mathlib.Omega.{arith}
 use lib.Dec.{eqb}
-use lib.ListN.{length, get_or, length-append}
+use lib.ListN.{length, get_or, take, length-append}
+use lib.Seq.{get_or-take, length-take-le}
 use borrow.Author.Tests.{eq-eqb, lt-ltb, le-ltb}
 use Rattle.job.specs.Told.{Told, row, passed}
 use Rattle.job.specs.Check.{otherwise}
 use Rattle.job.specs.Sound.{SoundList}
 use Rattle.job.specs.declared.list.JobList.{JobList}
+use Rattle.job.specs.Limit.{count_most}
+use Rattle.job.proofs.FilledLaws.{filled_long}
 use Rattle.job.proofs.CheckLaws.{otherwise_refused}
 use Rattle.job.proofs.TestLaws.{clash}
 use Rattle.text.specs.Word.{word_bytes}
 use Rattle.text.specs.Written.{written}
 use Rattle.text.proofs.WordLaws.{word_long}
-use Rattle.text.proofs.WrittenLaws.{Ends, ends, ends_as, ends_length, ends_at_once, followed}
+use Rattle.text.proofs.WrittenLaws.{Ends, ends_length, ends_at_once, followed}
 use Rattle.place.specs.declared.setting.Setting.{Setting}
 use Rattle.shortfall.specs.declared.answer.Below.{Below}
-use Rattle.shortfall.specs.Shortfall.{none_below, shortfall_told, shortfall_jobs}
+use Rattle.shortfall.specs.declared.answer.Judgement.{Judgement}
+use Rattle.shortfall.specs.Shortfall.{none_below, shortfall_told, cycle_judged}
 use Rattle.shortfall.proofs.JudgeLaws.{RowView, strange, faulty, too_long, judgeable, row_view}
 use Rattle.entry.specs.JobBytes.{list_from}
 use Rattle.entry.specs.Entry.{whole_jobs}
@@ -40,52 +44,83 @@ answers_long jobs (suc n) =
     let last = answer_bytes (get_or jobs n none_below) in
     length-append (answers_upto jobs n) last ∙ omega (arith, answers_long jobs n, answer_long (get_or jobs n none_below))
 
+-- of the first jobs alone
+cut : (jobs : List Below) (k n : ℕ) → n ≤ k → answers_upto (take k jobs) n ≡ answers_upto jobs n
+unfolding answers_upto
+cut jobs k zero h = refl
+cut jobs k (suc n) h = rw (cut jobs k n (omega arith), get_or-take k jobs n none_below)
+
+pub answers_cut :
+    (jobs : List Below) (k : ℕ) → k ≤ length jobs → answers_upto (take k jobs) (length (take k jobs)) ≡ answers_upto jobs k
+answers_cut jobs k h = ap (answers_upto (take k jobs)) (length-take-le k jobs h) ∙ cut jobs k k (omega arith)
+
 -- a number written
-pub word_ends :
-    (b₀ : List ℕ) (at x : ℕ) {b : List ℕ} {r : ℕ} → (r ≡ at + 4) × (b ≡ written b₀ at (word_bytes x)) → at + 4 ≤ length b₀
+word_ends :
+    {b₀ b : List ℕ} {at r : ℕ} (x : ℕ) → r ≡ at + 4 → b ≡ written b₀ at (word_bytes x) → at + 4 ≤ length b₀
     → Ends b₀ at (word_bytes x) b r
-word_ends b₀ at x e room = ends b₀ at (word_bytes x) (omega (arith, word_long x, e.0), e.1) (omega (arith, e.0))
+word_ends x place bytes room = record { place = omega (arith, word_long x); bytes = bytes; room = omega arith }
 
 -- one job, by its three numbers
-pub answer_ends :
-    (a : Below) {b₀ b₁ b₂ b₃ : List ℕ} {at r₁ r₂ r₃ first : ℕ} → Ends b₀ at (word_bytes a.windows) b₁ r₁
-    → Ends b₁ r₁ (word_bytes a.short) b₂ r₂ → first ≡ first_number a.first → Ends b₂ r₂ (word_bytes first) b₃ r₃
-    → Ends b₀ at (answer_bytes a) b₃ r₃
+pub answer_written :
+    (a : Below) (b₀ : List ℕ) (at : ℕ) {b₁ b₂ b₃ : List ℕ} {r₁ r₂ first : ℕ} → at + 12 ≤ length b₀
+    → r₁ ≡ at + 4 → b₁ ≡ written b₀ at (word_bytes a.windows)
+    → r₂ ≡ r₁ + 4 → b₂ ≡ written b₁ r₁ (word_bytes a.short)
+    → first ≡ first_number a.first → b₃ ≡ written b₂ r₂ (word_bytes first)
+    → b₃ ≡ written b₀ at (answer_bytes a)
 unfolding answer_bytes
-answer_ends a one two is three = followed (followed one two) (ends_as (ap word_bytes is) three)
+answer_written a b₀ at {b₂ = b₂} {r₂ = r₂} room one windows two short is first =
+    let w = word_ends a.windows one windows (omega arith) in
+    let s = word_ends a.short two short (omega (arith, ends_length w)) in
+    let bytes = first ∙ ap (λ (x : ℕ). written b₂ r₂ (word_bytes x)) is in
+    let f = word_ends {r = r₂ + 4} (first_number a.first) refl bytes (omega (arith, ends_length w, ends_length s)) in
+    (followed (followed w s) f).bytes
 
 -- the jobs, one after another
-module _ (jobs : List Below) (b₀ : List ℕ) (count : ℕ) (room : count * 12 ≤ length b₀) where
+module _ (jobs : List Below) (b₀ : List ℕ) (room : length jobs * 12 ≤ length b₀) where
   pub answers_start : Ends b₀ 0 (answers_upto jobs 0) b₀ 0
   unfolding answers_upto
   answers_start = ends_at_once b₀ 0 (omega arith)
 
-  module _ (i : ℕ) (more : i < count) {b : List ℕ} {end : ℕ} (so_far : Ends b₀ 0 (answers_upto jobs i) b end) where
+  module _ (i : ℕ) (more : i < length jobs) {b : List ℕ} {end : ℕ} (so_far : Ends b₀ 0 (answers_upto jobs i) b end) where
     pub answers_room : end + 12 ≤ length b
     answers_room = omega (arith, ends_length so_far, so_far.place, answers_long jobs i)
 
     pub answers_more :
-        {b' : List ℕ} {r : ℕ}
-        → (r ≡ end + length (answer_bytes (get_or jobs i none_below))) × (b' ≡ written b end (answer_bytes (get_or jobs i none_below)))
+        {b' : List ℕ} {r : ℕ} → r ≡ end + 12 → b' ≡ written b end (answer_bytes (get_or jobs i none_below))
         → Ends b₀ 0 (answers_upto jobs (i + 1)) b' r
     unfolding answers_upto
-    answers_more {b'} {r} e =
+    answers_more {b'} {r} place bytes =
         let a = get_or jobs i none_below in
         subst (λ (n : ℕ). Ends b₀ 0 (answers_upto jobs n) b' r) (sym (add-one i))
-        (followed so_far (ends b end (answer_bytes a) e (omega (arith, e.0, answer_long a, answers_room))))
+        (followed so_far (record { place = omega (arith, answer_long a); bytes = bytes; room = omega (arith, answers_room) }))
+
+-- the answers for the jobs of a list
+pub answers_written :
+    (l : JobList) (s : Setting) (b : List ℕ) {j : Judgement} {b' : List ℕ} → l.count ≤ count_most → j ≡ cycle_judged l s
+    → b' ≡ written b 0 (answers_upto (take l.count j.jobs) (length (take l.count j.jobs)))
+    → b' ≡ written b 0 (answers_upto (cycle_judged l s).jobs l.count)
+answers_written l s b few is bytes =
+    let jobs = (cycle_judged l s).jobs in
+    let long : length jobs ≡ count_most = filled_long none_below _ l.count in
+    bytes
+    ∙ ap (λ (x : Judgement). written b 0 (answers_upto (take l.count x.jobs) (length (take l.count x.jobs)))) is
+    ∙ ap (written b 0) (answers_cut jobs l.count (omega arith))
 
 -- a list that is answered is sound
-pub told_sound : (l : JobList) (setting : Setting) → (shortfall_told l setting).number ≡ 0 → SoundList l
+told_sound : (l : JobList) (setting : Setting) → passed ≡ shortfall_told l setting → SoundList l
 told_sound l setting e = go (row_view l setting)
   where
     number : {t : Told} → shortfall_told l setting ≡ t → t.number ≡ 0
-    number f = sym (ap (λ (t : Told). t.number) f) ∙ e
+    number f = ap (λ (t : Told). t.number) (sym f ∙ sym e)
 
     go : RowView l setting → SoundList l
     go (strange none f) = absurd (omega (arith, number f))
     go (faulty a broken f refuses) = absurd (clash refuses (eq-eqb _ 0 (number f)))
     go (too_long a s long f) = s
     go (judgeable a s short f) = s
+
+pub told_few : (l : JobList) (setting : Setting) → passed ≡ shortfall_told l setting → l.count ≤ 16
+told_few l setting e = (told_sound l setting e).count.high
 
 -- the tests of `below`
 pub below_broken : (jobs : List ℕ) (setting : Setting) (len : ℕ) → (Whole jobs → ⊥) → below_told jobs setting len ≡ row 14 []
@@ -120,7 +155,7 @@ module _ (jobs : List ℕ) (setting : Setting) (bytes : List ℕ) where
 
   pub below_writes :
       below_told jobs setting (length bytes) ≡ passed
-      → below_bytes jobs setting bytes ≡ written bytes 0 (answers_upto (shortfall_jobs (list_from jobs) setting) (list_from jobs).count)
+      → below_bytes jobs setting bytes ≡ written bytes 0 (answers_upto (cycle_judged (list_from jobs) setting).jobs (list_from jobs).count)
   unfolding below_bytes
   below_writes told = rw told
 

@@ -8,39 +8,42 @@ use native.Mathlib.Omega.{arith}
 use lib.Dec.{leb, eqb}
 use lib.ListN.{length, get_or}
 use borrow.Author.Tests.{leb-true, leb-false, le-leb, ne_eqb}
+use Rattle.std.specs.Prelude.{Ok, Err}
 use Rattle.job.specs.declared.list.JobList.{JobList}
 use Rattle.job.specs.Limit.{count_most, cycle_most}
-use Rattle.job.specs.declared.refusal.Checked.{Checked}
-use Rattle.job.specs.declared.refusal.Checked.TheVariants.{Passed}
-use Rattle.job.specs.Told.{Told, row, passed, told_checked}
+use Rattle.job.specs.declared.refusal.Refusal.{Refusal}
+use Rattle.job.specs.Told.{Told, row, passed, told}
 use Rattle.job.specs.Promise.{ListCheckPromise}
 use Rattle.job.specs.Check.{list_told}
 use Rattle.job.specs.Sound.{SoundList}
-use Rattle.job.proofs.ToldLaws.{checked_one_to_one}
+use Rattle.job.proofs.ToldLaws.{told_refuses}
 use Rattle.job.proofs.Meaning.{passes_exactly}
 use Rattle.admission.specs.Cycle.{cycle_of}
 use Rattle.text.specs.Written.{written}
 use Rattle.place.specs.declared.setting.Setting.{Setting}
 use Rattle.place.specs.Sound.{Allowed}
-use Rattle.shortfall.specs.declared.answer.Below.{Below}
 use Rattle.shortfall.specs.declared.answer.Judgement.{Judgement}
 use Rattle.shortfall.specs.Promise.{ShortfallPromise}
-use Rattle.shortfall.specs.Shortfall.{none_below, shortfall_told, shortfall_jobs}
-use Rattle.shortfall.proofs.JudgeLaws.{RowView, strange, faulty, too_long, judgeable, row_view}
+use Rattle.shortfall.specs.Shortfall.{none_below, shortfall_told, cycle_judged}
+use Rattle.shortfall.proofs.JudgeLaws.{RowView, strange, faulty, too_long, judgeable, row_view, refused_told}
 use Rattle.shortfall.proofs.AlikeLaws.{shortfall_alike}
 use Rattle.entry.specs.JobBytes.{list_from}
 use Rattle.entry.specs.Below.{answers_upto, below_told, below_bytes, setting_by}
 use Rattle.entry.specs.Meaning.{BytesOfList, Whole}
-use Rattle.entry.specs.BelowMeaning.{AnswerStands, AnswersStand, BelowAnswers, BelowRowFourteen, EntryBelow}
+use Rattle.entry.specs.BelowMeaning.{AnswerStands, AnswersStand, BelowTold, BelowAnswers, BelowRowFourteen, BelowNumber, EntryBelow}
 use Rattle.entry.proofs.JobLaws.{read_holds, held_whole, held_same, read_is}
 use Rattle.entry.proofs.Meaning.{numbered, Faulty, list_row}
+use Rattle.entry.proofs.NumberLaws.{below_answered}
 use Rattle.entry.proofs.BelowLaws.{below_broken, below_refused, below_no_room, below_passes, below_stays, below_writes, entry_broken, entry_strange, entry_strange_stays, entry_asks, entry_writes}
 use Rattle.entry.proofs.AnswerLaws.{each_stands, behind_stays, length_stays}
 
 -- the question asked of the bytes of a list
 module _ (jobs : List ℕ) (l : JobList) (held : BytesOfList jobs l) (s : Setting) (bytes : List ℕ) where
+  abbrev answer : Told
+  answer = below_told jobs s (length bytes)
+
   abbrev number : ℕ
-  number = (below_told jobs s (length bytes)).number
+  number = answer.number
 
   whole : Whole jobs
   whole = held_whole jobs l held
@@ -53,9 +56,9 @@ module _ (jobs : List ℕ) (l : JobList) (held : BytesOfList jobs l) (s : Settin
   told_is =
       ap (λ (x : JobList). shortfall_told x s) (read_is jobs l held) ∙ (shortfall_alike l (list_from jobs).jobs s (held_same jobs l held)).0
 
-  jobs_are : shortfall_jobs (list_from jobs) s ≡ shortfall_jobs l s
-  jobs_are =
-      ap (λ (x : JobList). shortfall_jobs x s) (read_is jobs l held) ∙ (shortfall_alike l (list_from jobs).jobs s (held_same jobs l held)).2
+  judged_is : l.count ≤ count_most → cycle_judged (list_from jobs) s ≡ cycle_judged l s
+  judged_is few =
+      ap (λ (x : JobList). cycle_judged x s) (read_is jobs l held) ∙ (shortfall_alike l (list_from jobs).jobs s (held_same jobs l held)).1 few
 
   -- what a number says of the arguments
   abbrev ListRow : ℕ → Type 0
@@ -73,9 +76,12 @@ module _ (jobs : List ℕ) (l : JobList) (held : BytesOfList jobs l) (s : Settin
   abbrev Given : ℕ → Type 0
   Given r = Says r → number ≡ r
 
+  refused_answer : {t : Told} → shortfall_told l s ≡ t → eqb t.number 0 ≡ false → answer ≡ t
+  refused_answer e refused =
+      below_refused jobs s (length bytes) whole (ap (λ (t : Told). eqb t.number 0) (told_is ∙ e) ∙ refused) ∙ told_is ∙ e
+
   refused_given : {t : Told} → shortfall_told l s ≡ t → eqb t.number 0 ≡ false → number ≡ t.number
-  refused_given e refused =
-      numbered (below_refused jobs s (length bytes) whole (ap (λ (t : Told). eqb t.number 0) (told_is ∙ e) ∙ refused) ∙ told_is ∙ e)
+  refused_given e refused = numbered (refused_answer e refused)
 
   eight_given : Given 8
   eight_given e = refused_given e refl
@@ -104,7 +110,7 @@ module _ (jobs : List ℕ) (l : JobList) (held : BytesOfList jobs l) (s : Settin
   answered : shortfall_told l s ≡ passed → (shortfall_told (list_from jobs) s).number ≡ 0
   answered e = numbered (told_is ∙ e)
 
-  passed_told_lem : Says 0 → below_told jobs s (length bytes) ≡ passed
+  passed_told_lem : Says 0 → answer ≡ passed
   passed_told_lem says = below_passes jobs s (length bytes) whole (answered says.0) (omega (arith, count_is, says.1))
 
   zero_given : Given 0
@@ -143,20 +149,8 @@ module _ (jobs : List ℕ) (l : JobList) (held : BytesOfList jobs l) (s : Settin
   says r e = subst Says e holds
 
   -- a list that its check refuses
-  refused_list : Allowed s → (c : Checked) → ListCheckPromise l c → (c ≡ Passed → ⊥) → number ≡ (told_checked c).number
-  unfolding Faulty
-  refused_list a c check refused = go (list_row l)
-    where
-      go : SoundList l ⊎ Faulty l → number ≡ (told_checked c).number
-      go (inl sound) = absurd (refused (checked_one_to_one c Passed (check ∙ (passes_exactly l).1 sound)))
-      go (inr f) = list_given (list_told l).number f.0 (a, refl) ∙ numbered (sym check)
-
-  -- where it is 0, the answers are written
-  writes : Says 0 → below_bytes jobs s bytes ≡ written bytes 0 (answers_upto (shortfall_jobs l s) l.count)
-  writes says =
-      below_writes jobs s bytes (passed_told_lem says)
-      ∙ ap (λ (js : List Below). written bytes 0 (answers_upto js (list_from jobs).count)) jobs_are
-      ∙ ap (λ (n : ℕ). written bytes 0 (answers_upto (shortfall_jobs l s) n)) count_is
+  refused_list : Allowed s → (refusal : Refusal) → ListCheckPromise l (Err refusal) → answer ≡ told refusal
+  refused_list a refusal check = refused_answer (refused_told l s a (sym check.0) (told_refuses refusal)) (told_refuses refusal)
 
   cycle_told_lem : shortfall_told l s ≡ passed → (l.count ≤ count_most) × (cycle_of l ≤ cycle_most)
   cycle_told_lem told = go (row_view l s)
@@ -170,69 +164,62 @@ module _ (jobs : List ℕ) (l : JobList) (held : BytesOfList jobs l) (s : Settin
       go (too_long a sound h e) = absurd (omega (arith, differ e))
       go (judgeable a sound h e) = (sound.count.high, h)
 
-  stand : Says 0 → (j : Judgement) → ShortfallPromise l s j → AnswersStand l j bytes (below_bytes jobs s bytes)
+  -- where it is 0, the answers are written
+  writes : Says 0 → l.count ≤ count_most → below_bytes jobs s bytes ≡ written bytes 0 (answers_upto (cycle_judged l s).jobs l.count)
+  writes says few =
+      below_writes jobs s bytes (passed_told_lem says)
+      ∙ ap (λ (j : Judgement). written bytes 0 (answers_upto j.jobs (list_from jobs).count)) (judged_is few)
+      ∙ ap (λ (n : ℕ). written bytes 0 (answers_upto (cycle_judged l s).jobs n)) count_is
+
+  stand : Says 0 → (j : Judgement) → ShortfallPromise l s (Ok j) → AnswersStand l j bytes (below_bytes jobs s bytes)
   stand says j promise =
       let small = cycle_told_lem says.0 in
-      let now : List ℕ = written bytes 0 (answers_upto (shortfall_jobs l s) l.count) in
-      subst (AnswersStand l j bytes) (sym (writes says))
+      let now : List ℕ = written bytes 0 (answers_upto (cycle_judged l s).jobs l.count) in
+      subst (AnswersStand l j bytes) (sym (writes says small.0))
       (record {
         each =
             λ i h.
-            subst (λ (js : List Below). AnswerStands now (i * 12) (get_or js i none_below)) (sym promise.2)
-            (each_stands l s says.0 small.0 small.1 bytes says.1 i h);
-        behind = behind_stays l s says.0 small.0 small.1 bytes says.1;
-        long = length_stays l s says.0 small.0 small.1 bytes says.1;
+            subst (λ (x : Judgement). AnswerStands now (i * 12) (get_or x.jobs i none_below)) (sym promise.1)
+            (each_stands l s small.0 small.1 bytes says.1 i h);
+        behind = behind_stays l s small.0 small.1 bytes says.1;
+        long = length_stays l s small.0 small.1 bytes says.1;
       })
 
-below_keeps :
-    (jobs : List ℕ) (s : Setting) (before : List ℕ) → ((below_told jobs s (length before)).number ≡ 0 → ⊥) → below_bytes jobs s before ≡ before
-below_keeps jobs s before refused = sym (below_stays jobs s before refl (ne_eqb (below_told jobs s (length before)).number 0 refused))
+  pub tells : BelowTold l s bytes answer (below_bytes jobs s bytes)
+  tells =
+      record {
+        row_fifteen = (says 15, fifteen_given);
+        list_rows = refused_list;
+        row_eight = λ r asked. rw asked.0 (says 8, eight_given);
+        row_twelve = λ r asked. rw asked.0 (says 12, twelve_given);
+        passes = λ r asked. rw asked.0 (says 0, zero_given);
+        answers = λ zero. stand (says 0 zero);
+        keeps = λ refused. sym (below_stays jobs s bytes refl (ne_eqb number 0 refused));
+      }
 
 pub below_answers : BelowAnswers
-below_answers jobs l held s before r after promise =
-    let is : r ≡ (below_told jobs s (length before)).number = promise.0 in
-    let told-passed : (j : Judgement) → ShortfallPromise l s j → shortfall_told l s ≡ passed → j.answer ≡ Passed =
-    λ j asked e. checked_one_to_one j.answer Passed (asked.0 ∙ e) in
-    let passed_told_lem : (j : Judgement) → ShortfallPromise l s j → j.answer ≡ Passed → shortfall_told l s ≡ passed =
-    λ j asked e. sym asked.0 ∙ ap told_checked e in
-    record {
-      row_fifteen = (λ e. says jobs l held s before 15 (sym is ∙ e), λ e. is ∙ fifteen_given jobs l held s before e);
-      list_rows = λ a c check refused. is ∙ refused_list jobs l held s before a c check refused;
-      row_eight =
-          λ j asked. (
-            λ e. asked.0 ∙ says jobs l held s before 8 (sym is ∙ e),
-            λ e. is ∙ eight_given jobs l held s before (sym asked.0 ∙ e),
-          );
-      row_twelve =
-          λ j asked. (
-            λ e. let h = says jobs l held s before 12 (sym is ∙ e) in (told-passed j asked h.0, h.1),
-            λ h. is ∙ twelve_given jobs l held s before (passed_told_lem j asked h.0, h.1),
-          );
-      passes =
-          λ j asked. (
-            λ e. let h = says jobs l held s before 0 (sym is ∙ e) in (told-passed j asked h.0, h.1),
-            λ h. is ∙ zero_given jobs l held s before (passed_told_lem j asked h.0, h.1),
-          );
-      answers =
-          λ zero j asked.
-          subst (AnswersStand l j before) (sym promise.1) (stand jobs l held s before (says jobs l held s before 0 (sym is ∙ zero)) j asked);
-      keeps = λ refused. promise.1 ∙ below_keeps jobs s before (λ e. refused (is ∙ e));
-    }
+below_answers jobs l held s before r after promise = rw (promise.0, promise.1) (tells jobs l held s before)
 
 pub below_row_fourteen : BelowRowFourteen
 below_row_fourteen jobs s before r after promise =
-    let is : r ≡ (below_told jobs s (length before)).number = promise.0 in (
+    let is = numbered promise.0 in (
       (
         λ e whole. says jobs (list_from jobs) (read_holds jobs whole) s before 14 (sym is ∙ e),
         λ broken. is ∙ numbered (below_broken jobs s (length before) broken),
       ),
-      λ e. promise.1 ∙ below_keeps jobs s before (λ zero. absurd (omega (arith, is, e, zero))),
+      λ e. promise.1 ∙ sym (below_stays jobs s before refl (ap (λ (n : ℕ). eqb n 0) (sym is ∙ e))),
     )
 
 pub entry_below : EntryBelow
 entry_below jobs order model spare before r after promise =
-    let plain : spare ≤ 1 → (r ≡ (below_told jobs (setting_by order model spare) (length before)).number) × (after ≡ below_bytes jobs (setting_by order model spare) before) =
-    λ h. (promise.0 ∙ numbered (entry_asks jobs order model spare h (length before)), promise.1 ∙ entry_writes jobs order model spare h before) in
+    let plain : spare ≤ 1 → BelowNumber jobs (setting_by order model spare) before r after =
+    λ h.
+    let s = setting_by order model spare in
+    let a = below_answered jobs s (length before) in (
+      a.0,
+      (a.1, promise.1 ∙ entry_writes jobs order model spare h before),
+      promise.0 ∙ numbered (entry_asks jobs order model spare h (length before)) ∙ numbered (sym a.1),
+    ) in
     record {
       off = λ e. rw e at (plain (omega arith));
       on = λ e. rw e at (plain (omega arith));

@@ -6,7 +6,10 @@ use Prim.Native.Nat.{ℕ, ◌%◌}
 use lib.Dec.{eqb}
 use lib.ListN.{length}
 use borrow.Author.Tests.{eq-eqb, ne_eqb}
-use Rattle.job.specs.Told.{Told, row}
+use native.Mathlib.Decide.{ℕ_discrete}
+use Rattle.job.specs.declared.refusal.Refusal.{Refusal}
+use Rattle.job.specs.declared.refusal.Refusal.TheVariants.{JobBytes}
+use Rattle.job.specs.Told.{Told, row, passed, told}
 use Rattle.job.specs.Check.{otherwise}
 use Rattle.admission.specs.Verdict.{verdict_told}
 use Rattle.place.specs.declared.setting.Setting.{Setting}
@@ -15,6 +18,7 @@ use Rattle.timetable.specs.Table.{write_told, write_bytes}
 use Rattle.entry.specs.JobBytes.{list_from}
 use Rattle.entry.specs.Entry.{whole_jobs, admit_told, fill_told, fill_bytes}
 use Rattle.entry.specs.Meaning.{Whole}
+use Rattle.job.proofs.ToldLaws.{not_passed}
 use Rattle.job.proofs.CheckLaws.{otherwise_refused}
 
 -- the test of row 14
@@ -26,6 +30,21 @@ module _ (jobs : List ℕ) (t : Told) where
   pub broken_told : (Whole jobs → ⊥) → whole_jobs jobs t ≡ row 14 []
   unfolding whole_jobs
   broken_told broken = rw (ne_eqb (length jobs % 6) 0 broken)
+
+-- what an answer of the bytes' list says of them
+module _ (jobs : List ℕ) where
+  pub read_whole : passed ≡ whole_jobs jobs passed → Whole jobs
+  read_whole e = go (ℕ_discrete (length jobs % 6) 0)
+    where
+      go : Dec (Whole jobs) → Whole jobs
+      go (yes whole) = whole
+      go (no broken) = absurd (not_passed JobBytes (sym (e ∙ broken_told jobs passed broken)))
+
+  pub read_broken : (r : Refusal) → told r ≡ whole_jobs jobs passed → (Whole jobs → ⊥) × (told r ≡ row 14 [])
+  read_broken r e = (broken, e ∙ broken_told jobs passed broken)
+    where
+      broken : Whole jobs → ⊥
+      broken whole = not_passed r (e ∙ whole_told jobs passed whole)
 
 -- admission
 pub admit_broken : (jobs : List ℕ) (model : ℕ) → (Whole jobs → ⊥) → admit_told jobs model ≡ row 14 []

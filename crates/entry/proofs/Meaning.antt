@@ -8,14 +8,14 @@ use native.Mathlib.Omega.{arith}
 use lib.Dec.{leb, ltb, eqb}
 use lib.ListN.{length, take, drop}
 use borrow.Author.Tests.{leb-true, leb-false, le-leb, ne_eqb}
+use Rattle.std.specs.Prelude.{Ok, Err}
 use Rattle.job.specs.declared.record.Job.{Job}
 use Rattle.job.specs.declared.list.JobList.{JobList}
 use Rattle.job.specs.Limit.{original, cycle_most}
-use Rattle.job.specs.declared.refusal.Checked.{Checked}
-use Rattle.job.specs.declared.refusal.Checked.TheVariants.{Passed}
-use Rattle.job.specs.Told.{Told, passed, told_checked}
+use Rattle.job.specs.declared.refusal.Refusal.{Refusal}
+use Rattle.job.specs.Told.{Told, passed, told}
 use Rattle.job.specs.Promise.{ListCheckPromise}
-use Rattle.job.proofs.ToldLaws.{checked_one_to_one}
+use Rattle.job.proofs.ToldLaws.{told_refuses}
 use Rattle.job.specs.Check.{otherwise, list_told}
 use Rattle.job.specs.Sound.{SoundList, FaultOf, t_fault, c_fault, k_fault, m_fault}
 use Rattle.admission.specs.Cycle.{cycle_of}
@@ -33,12 +33,13 @@ use Rattle.timetable.specs.Meaning.{Room, Stays}
 use Rattle.timetable.proofs.Meaning.{choices_written}
 use Rattle.entry.specs.JobBytes.{list_from}
 use Rattle.entry.specs.Entry.{admit_told, fill_told, fill_bytes}
-use Rattle.entry.specs.Meaning.{BytesOfList, Whole, AdmitEntryAnswers, Starts, FillsRun, FillAnswers, FillRowFourteen, EntryFills}
+use Rattle.entry.specs.Meaning.{BytesOfList, Whole, AdmitEntryAnswers, Starts, FillsRun, FillTold, FillAnswers, FillRowFourteen, FillNumbers, EntryFills}
 use Rattle.job.proofs.Meaning.{ListView, no_jobs, many_jobs, sound_list, faulty_list, list_view, passes_exactly, row_one_exactly, row_two_exactly, job_rows_exactly}
 use Rattle.run.proofs.RangeLaws.{range_exactly}
 use Rattle.admission.proofs.LentMeaning.{same_verdict}
 use Rattle.run.proofs.StartLaws.{start_checks, state_passed, start_sound, allowed_or, start_row_fifteen, start_alike, state_alike}
 use Rattle.timetable.proofs.WriteLaws.{refused_twelve, refused_eleven, writes_on}
+use Rattle.entry.proofs.NumberLaws.{fill_answered}
 use Rattle.entry.proofs.JobLaws.{read_holds, held_whole, held_same, read_is}
 use Rattle.entry.proofs.EntryLaws.{WritesOn, admit_broken, admit_whole, fill_broken, fill_starts, fill_keeps, writes_on as write-on}
 
@@ -98,9 +99,6 @@ verdict_other l model =
 abbrev admit_number : List ℕ → ℕ → ℕ
 admit_number jobs model = (admit_told jobs model).number
 
-abbrev fill_number : List ℕ → Setting → List ℕ → ℕ → ℕ → ℕ
-fill_number jobs setting bytes offset n = (fill_told jobs setting (length bytes) offset n).number
-
 admit_row_fourteen : (jobs : List ℕ) (model : ℕ) → (admit_number jobs model ≡ 14) ↔ (Whole jobs → ⊥)
 admit_row_fourteen jobs model =
     (λ e whole. verdict_other (list_from jobs) model (numbered (sym (admit_whole jobs model whole)) ∙ e), λ broken. numbered (admit_broken jobs model broken))
@@ -120,8 +118,11 @@ admit_entry_answers jobs model r promise =
 
 -- a fill of the bytes of a list
 module _ (jobs : List ℕ) (l : JobList) (held : BytesOfList jobs l) (setting : Setting) (bytes : List ℕ) (offset n : ℕ) where
+  abbrev answer : Told
+  answer = fill_told jobs setting (length bytes) offset n
+
   abbrev number : ℕ
-  number = fill_number jobs setting bytes offset n
+  number = answer.number
 
   whole : Whole jobs
   whole = held_whole jobs l held
@@ -151,19 +152,18 @@ module _ (jobs : List ℕ) (l : JobList) (held : BytesOfList jobs l) (setting : 
   abbrev Given : ℕ → Type 0
   Given r = Says r → number ≡ r
 
-  refused_given : {t : Told} → start_told l setting ≡ t → eqb t.number 0 ≡ false → number ≡ t.number
-  refused_given e refused =
-      numbered
-      (fill_starts jobs setting (length bytes) offset n whole (ap (λ (t : Told). eqb t.number 0) (start_is ∙ e) ∙ refused)
+  refused_start : {t : Told} → start_told l setting ≡ t → eqb t.number 0 ≡ false → answer ≡ t
+  refused_start e refused =
+      fill_starts jobs setting (length bytes) offset n whole (ap (λ (t : Told). eqb t.number 0) (start_is ∙ e) ∙ refused)
       ∙ start_is
-      ∙ e)
+      ∙ e
 
   fifteen_given : Given 15
-  fifteen_given strange = refused_given ((start_row_fifteen l setting).1 strange) refl
+  fifteen_given strange = numbered (refused_start ((start_row_fifteen l setting).1 strange) refl)
 
   list_given : (r : ℕ) → 1 ≤ r → ListRow r → number ≡ r
   list_given r some s =
-      refused_given (start_checks l setting s.0) (ne_eqb (list_told l).number 0 (omega arith)) ∙ s.1
+      numbered (refused_start (start_checks l setting s.0) (ne_eqb (list_told l).number 0 (omega arith))) ∙ s.1
 
   abbrev state : State
   state = start_state l setting
@@ -189,15 +189,15 @@ module _ (jobs : List ℕ) (l : JobList) (held : BytesOfList jobs l) (setting : 
         numbered (on.told_is ∙ ap (λ (s : State). write_told s (length bytes) offset n) state_is ∙ sym e)
 
   twelve_given : Given 12
-  twelve_given s = written_given s.0 (refused_twelve state bytes offset n (in_range s.0) s.1).told_is
+  twelve_given s = written_given s.0 (refused_twelve state bytes offset n (in_range s.0) s.1).0
 
   eleven_given : Given 11
   eleven_given s =
-      written_given s.0 (refused_eleven state bytes offset n (in_range s.0) s.1 (omega (arith, at_zero s.0, s.2))).told_is
+      written_given s.0 (refused_eleven state bytes offset n (in_range s.0) s.1 (omega (arith, at_zero s.0, s.2))).0
 
   zero_given : Given 0
   zero_given s =
-      written_given s.0 (writes_on state bytes offset n (in_range s.0) s.1 (omega (arith, at_zero s.0, s.2))).told_is
+      written_given s.0 (writes_on state bytes offset n (in_range s.0) s.1 (omega (arith, at_zero s.0, s.2))).0
 
   -- and of every number that is returned, that holds
   list_says : (r : ℕ) → 1 ≤ r → r ≤ 6 → ListRow r → Says r
@@ -245,7 +245,7 @@ module _ (jobs : List ℕ) (l : JobList) (held : BytesOfList jobs l) (setting : 
         long = wrote.long;
         run =
             record {
-              started = record { answer = Passed; state = state };
+              started = record { answer = Ok tt; state = state };
               promise = (sym (start_passes starts), refl);
               passes = refl;
               steps = wrote.steps;
@@ -255,38 +255,39 @@ module _ (jobs : List ℕ) (l : JobList) (held : BytesOfList jobs l) (setting : 
       }
 
   -- a list that its check refuses
-  refused_list : Allowed setting → (c : Checked) → ListCheckPromise l c → (c ≡ Passed → ⊥) → number ≡ (told_checked c).number
-  unfolding Faulty
-  refused_list a c check refused = go (list_row l)
-    where
-      go : SoundList l ⊎ Faulty l → number ≡ (told_checked c).number
-      go (inl s) = absurd (refused (checked_one_to_one c Passed (check ∙ (passes_exactly l).1 s)))
-      go (inr f) = list_given (list_told l).number f.0 (a, refl) ∙ numbered (sym check)
+  refused_list : Allowed setting → (refusal : Refusal) → ListCheckPromise l (Err refusal) → answer ≡ told refusal
+  refused_list a refusal check = refused_start (start_checks l setting a ∙ sym check.0) (told_refuses refusal)
+
+  pub tells : FillTold l setting bytes offset n answer (fill_bytes jobs setting bytes offset n)
+  tells =
+      record {
+        row_fifteen = (says 15, fifteen_given);
+        list_rows = refused_list;
+        row_twelve = (says 12, twelve_given);
+        row_eleven = (says 11, eleven_given);
+        passes = (says 0, zero_given);
+        runs = fills;
+        keeps = fill_keeps jobs setting bytes offset n;
+      }
 
 pub fill_answers : FillAnswers
 fill_answers jobs l held s before offset n r after promise =
-    let is : r ≡ fill_number jobs s before offset n = promise.0 in
-    record {
-      row_fifteen = rw is (says jobs l held s before offset n 15, fifteen_given jobs l held s before offset n);
-      list_rows = λ a c check refused. is ∙ refused_list jobs l held s before offset n a c check refused;
-      row_twelve = rw is (says jobs l held s before offset n 12, twelve_given jobs l held s before offset n);
-      row_eleven = rw is (says jobs l held s before offset n 11, eleven_given jobs l held s before offset n);
-      passes = rw is (says jobs l held s before offset n 0, zero_given jobs l held s before offset n);
-      runs =
-          λ zero.
-          subst (FillsRun l s before offset n) (sym promise.1) (fills jobs l held s before offset n (sym is ∙ zero));
-      keeps = λ refused. promise.1 ∙ fill_keeps jobs s before offset n (λ e. refused (is ∙ e));
-    }
+    rw (promise.0, promise.1) (tells jobs l held s before offset n)
 
 pub fill_row_fourteen : FillRowFourteen
 fill_row_fourteen jobs s before offset n r after promise =
-    let is : r ≡ fill_number jobs s before offset n = promise.0 in (
+    let is = numbered promise.0 in (
       (
         λ e whole. says jobs (list_from jobs) (read_holds jobs whole) s before offset n 14 (sym is ∙ e),
         λ broken. is ∙ numbered (fill_broken jobs s (length before) offset n broken),
       ),
       λ e. promise.1 ∙ fill_keeps jobs s before offset n (λ zero. absurd (omega (arith, is, e, zero))),
     )
+
+pub fill_numbers : FillNumbers
+fill_numbers jobs s before offset n r after promise =
+    let a = fill_answered jobs s (length before) offset n in
+    (a.0, (a.1, promise.1), promise.0 ∙ numbered (sym a.1))
 
 pub entry_fills : EntryFills
 entry_fills jobs order model before offset n r after promise = promise

@@ -1,21 +1,18 @@
 -- Which jobs fall below their stated part, in bytes: 12 a job, behind the tests 14, 15, 1 to 6, 8, 12.
-use Rattle.std.specs.Prelude.{ℕ, zero, suc, ◌*◌, Bool, cond, List, [], ◌++◌, eqb, ltb, length, get_or}
+use Rattle.std.specs.Prelude.{ℕ, zero, suc, ◌*◌, Bool, cond, List, [], ◌++◌, eqb, ltb, length, get_or, Option, unwrap_or}
 use Rattle.job.specs.Told.{Told, row, passed}
 use Rattle.job.specs.Check.{otherwise}
 use Rattle.text.specs.Word.{word_bytes}
 use Rattle.text.specs.Written.{written}
 use Rattle.place.specs.declared.setting.Setting.{Setting}
-use Rattle.shortfall.specs.declared.answer.First.{First}
-use Rattle.shortfall.specs.declared.answer.First.TheVariants.{Never, Slot}
 use Rattle.shortfall.specs.declared.answer.Below.{Below}
-use Rattle.shortfall.specs.Shortfall.{none_below, shortfall_told, shortfall_jobs}
+use Rattle.shortfall.specs.Shortfall.{none_below, shortfall_told, cycle_judged}
 use Rattle.entry.specs.JobBytes.{list_from}
 use Rattle.entry.specs.Entry.{whole_jobs}
 
 -- the first slot in which a window ends short; for never the clock's limit, a slot that is not run
-abbrev pub first_number : First → ℕ
-first_number Never = 4294967295
-first_number (Slot n) = n
+abbrev pub first_number : Option ℕ → ℕ
+first_number first = unwrap_or first 4294967295
 
 -- one job: windows a cycle, short windows a cycle, the first slot, each low byte first
 unfoldable pub answer_bytes : Below → List ℕ
@@ -39,7 +36,7 @@ below_told jobs setting len =
 unfoldable pub below_bytes : List ℕ → Setting → List ℕ → List ℕ
 below_bytes jobs setting bytes =
     cond (eqb (below_told jobs setting (length bytes)).number 0)
-    (written bytes 0 (answers_upto (shortfall_jobs (list_from jobs) setting) (list_from jobs).count))
+    (written bytes 0 (answers_upto (cycle_judged (list_from jobs) setting).jobs (list_from jobs).count))
     bytes
 
 -- 15 is also for a spare that is not 0 or 1

@@ -1,21 +1,16 @@
 // Job bytes: 6 a job, C and T 16 bits each, low byte first, then m and k.
 ghost use Rattle.std.specs.Prelude.{◌≡◌, ◌*◌, ◌+◌, ◌≤◌, length};
-ghost use Rattle.entry.specs.JobBytes.{pair_at, job_from, list_from};
+ghost use Rattle.entry.specs.JobBytes.{pair_at, job_from};
+ghost use Rattle.entry.specs.Promise.{ListFromPromise};
 
-use job::{Job, JobList};
-
-fn wide(x: u8) -> u32
-    ensures { result ≡ x }
-{
-    x as u32
-}
+use job::{Job, JobList, Refusal};
 
 // The 16 bits that stand at a place, low byte first.
 fn pair_at(bytes: &[u8], at: usize) -> u32
     requires { at + 2 ≤ length bytes.now }
     ensures { result ≡ pair_at bytes.now at }
 {
-    wide(bytes[at]) + 256 * wide(bytes[at + 1])
+    u32::from(u16::from_le_bytes([bytes[at], bytes[at + 1]]))
 }
 
 fn job_from(bytes: &[u8], number: usize) -> Job
@@ -26,22 +21,17 @@ fn job_from(bytes: &[u8], number: usize) -> Job
     Job {
         c: pair_at(bytes, at),
         t: pair_at(bytes, at + 2),
-        m: wide(bytes[at + 4]),
-        k: wide(bytes[at + 5]),
+        m: u32::from(bytes[at + 4]),
+        k: u32::from(bytes[at + 5]),
     }
 }
 
-// The list that the bytes hold. Bytes behind the sixteenth job are counted and not read.
-pub fn list_from(bytes: &[u8]) -> JobList
-    ensures { result ≡ list_from bytes.now }
+// The list that the bytes hold, or row 14 (no `TryFrom`: list and bytes are types of others). Bytes behind the sixteenth job are counted and not read.
+pub fn list_from(bytes: &[u8]) -> Result<JobList, Refusal>
+    ensures { ListFromPromise bytes.now result }
 {
-    let count = bytes.len() / 6;
-    let mut list = JobList::empty(count);
-    let mut at: usize = 0;
-    while (at < count) & (at < JobList::COUNT_MOST) {
-        let job = job_from(bytes, at);
-        list.jobs[at] = job;
-        at += 1;
+    if bytes.len() % 6 != 0 {
+        return Err(Refusal::JobBytes);
     }
-    list
+    Ok(JobList::by(bytes.len() / 6, |at| job_from(bytes, at)))
 }

@@ -1,5 +1,6 @@
 // The three entries as C calls them, under the names of include/filbertoss.h: each is the function of
-// crate `entry` of that name, and promises what that one promises.
+// crate `entry` of that name, and promises what that one promises. They are here and there, since a
+// crate is a library or a static library.
 #![tactic(auto)]
 
 ghost use Rattle.entry.specs.Promise.{AdmitEntryPromise, FillEntryPromise, BelowEntryPromise};

@@ -4,8 +4,9 @@
 
 ghost use Rattle.std.specs.Prelude.{not, eqb};
 ghost use Rattle.place.specs.Setting.{setting_of, with_spare};
-ghost use Rattle.entry.specs.Promise.{FillPromise};
+ghost use Rattle.entry.specs.Promise.{FillNumberPromise};
 
+use job::number_of;
 use place::Setting;
 
 // Spare is on exactly if its number is not 0.
@@ -19,9 +20,12 @@ pub extern "C" fn filbertoss_pace(
     offset: usize,
     n: usize,
 ) -> u32
-    ensures { FillPromise jobs.now (with_spare (setting_of order model) (not (eqb spare 0))) buf.old offset n result buf.new }
+    ensures { FillNumberPromise jobs.now (with_spare (setting_of order model) (not (eqb spare 0))) buf.old offset n result buf.new }
 {
-    let mut setting = Setting::of(order, model);
-    setting.spare = spare != 0;
-    entry::fill(jobs, setting, buf, offset, n)
+    let setting = Setting {
+        order,
+        model,
+        spare: spare != 0,
+    };
+    number_of(entry::fill(jobs, setting, buf, offset, n))
 }

@@ -21,13 +21,14 @@ use Rattle.place.specs.declared.setting.Setting.{Setting}
 use Rattle.place.specs.declared.record.Place.{Place}
 use Rattle.place.specs.Opening.{blank, opened}
 use Rattle.run.specs.State.{zeros, fresh_of}
+use Rattle.run.specs.Slot.{count_upto}
 use Rattle.run.specs.Step.{start_told}
 use Rattle.run.proofs.StartLaws.{start_checks, allowed_or, start_alike}
 use Rattle.shortfall.specs.declared.inner.Tally.{Tally}
 use Rattle.shortfall.specs.Tally.{tally_at, tallies_of}
 use Rattle.admission.proofs.LentMeaning.{same_cycle as cycle-same}
-use Rattle.shortfall.specs.Shortfall.{below_of, none_below, cycle_judged, shortfall_told, shortfall_count, shortfall_jobs}
-use Rattle.shortfall.proofs.JudgeLaws.{start_first, refused_answer}
+use Rattle.shortfall.specs.Shortfall.{below_of, none_below, cycle_judged, shortfall_told}
+use Rattle.shortfall.proofs.JudgeLaws.{start_first}
 
 -- of more than 16 jobs nothing is told but that
 many_refused : (l : JobList) (s : Setting) → count_most < l.count → eqb (start_told l s).number 0 ≡ false
@@ -43,18 +44,13 @@ module _ (l : JobList) (jobs : List Job) (s : Setting) where
   abbrev Answered : Type 0
   Answered =
       (shortfall_told other s ≡ shortfall_told l s)
-      × (shortfall_count other s ≡ shortfall_count l s)
-      × (shortfall_jobs other s ≡ shortfall_jobs l s)
+      × (l.count ≤ count_most → cycle_judged other s ≡ cycle_judged l s)
 
   many_alike : start_told other s ≡ start_told l s → count_most < l.count → Answered
-  many_alike starts many =
-      let here = many_refused l s many in
-      let there = many_refused other s many in
-      let told = start_first l s here in
-      let told-other = start_first other s there in
-      let answer = refused_answer l s told here in
-      let answer-other = refused_answer other s told-other there in
-      (told-other ∙ starts ∙ sym told, answer-other.0 ∙ sym answer.0, answer-other.1 ∙ sym answer.1)
+  many_alike starts many = (
+    start_first other s (many_refused other s many) ∙ starts ∙ sym (start_first l s (many_refused l s many)),
+    λ few. absurd (omega arith),
+  )
 
   module _ (starts : start_told other s ≡ start_told l s) (few : l.count ≤ count_most) (same : Same jobs l.jobs l.count) where
     same_cycle : cycle_of other ≡ cycle_of l
@@ -83,11 +79,12 @@ module _ (l : JobList) (jobs : List Job) (s : Setting) where
         (λ i h. ap (λ (j : Job). below_of j (cycle_of l) (tally_at (tallies_of (fresh_of l s) (cycle_of l)) i)) (same i h))
 
     few_alike : Answered
-    unfolding shortfall_count shortfall_jobs
     few_alike = (
       same_told,
-      rw (same_told, same_tallies),
-      rw (same_told, same_jobs),
+      λ few dim. record {
+        fallen = count_upto (λ i. ltb 0 (tally_at (same_tallies dim) i).short) l.count;
+        jobs = same_jobs dim;
+      },
     )
 
   pub shortfall_alike : Same jobs l.jobs (min l.count count_most) → Answered

@@ -1,22 +1,18 @@
 -- How many numbers have a property, also where it comes again every h numbers.
 use mathlib.Core.Path.{◌≡◌, refl, sym, ap, ◌∙◌}
-use mathlib.Core.Bool.{Bool, true, false, cond}
+use mathlib.Core.Bool.{Bool, false, cond}
 use Prim.Native.Nat.{ℕ, zero, suc, ◌+◌, ◌-◌, ◌*◌, ◌/◌, ◌%◌, ◌≤◌, ◌<◌}
 use native.Mathlib.Nat.{add-zero, add-suc, zero-mul, suc-mul, mod-lt, div-add-mod'}
-use native.Mathlib.Decide.{ℕ_discrete}
 use native.Mathlib.Omega.{arith}
+use Rattle.std.proofs.lemmas.Bool.Decides.{nat_tests}
 use Rattle.run.specs.SlotMeaning.{how_many}
 use Rattle.lawful.proofs.NeverShort.{none_counted}
-
-many_step : (b : Bool) (y z : ℕ) {x : ℕ} → x ≡ y + z → cond b (x + 1) x ≡ y + cond b (z + 1) z
-many_step true y z e = omega arith
-many_step false y z e = e
 
 -- of a part, and of what follows it
 many_add : (f : ℕ → Bool) (a b : ℕ) → how_many f (a + b) ≡ how_many f a + how_many (λ i. f (a + i)) b
 unfolding how_many
 many_add f a zero = rw (add-zero, add-zero)
-many_add f a (suc b) = rw add-suc (many_step (f (a + b)) (how_many f a) (how_many (λ i. f (a + i)) b) (many_add f a b))
+many_add f a (suc b) = grind (arith, nat_tests, add-suc a b, many_add f a b)
 
 pub many_same : (f g : ℕ → Bool) (n : ℕ) → ((i : ℕ) → i < n → f i ≡ g i) → how_many f n ≡ how_many g n
 unfolding how_many
@@ -34,20 +30,10 @@ many_past f n m fits none =
     ∙ omega (arith, none_counted (λ i. f (n + i)) (m - n) (λ i inside. none (n + i) (omega arith))))
 
 -- none where the count is 0
-counted_none : (b : Bool) (x : ℕ) → cond b (x + 1) x ≡ 0 → (b ≡ false) × (x ≡ 0)
-counted_none true x e = absurd (omega arith)
-counted_none false x e = (refl, e)
-
 pub many_none : (f : ℕ → Bool) (n : ℕ) → how_many f n ≡ 0 → (i : ℕ) → i < n → f i ≡ false
 unfolding how_many
 many_none f zero e i h = absurd (omega arith)
-many_none f (suc n) e i h =
-    let last = counted_none (f n) (how_many f n) e in
-    go last.0 (ℕ_discrete i n) (λ less. many_none f n last.1 i less)
-  where
-    go : f n ≡ false → Dec (i ≡ n) → (i < n → f i ≡ false) → f i ≡ false
-    go here (yes same) before = rw same here
-    go here (no other) before = before (omega arith)
+many_none f (suc n) e i h = grind (arith, nat_tests, many_none f n)
 
 module _ (f : ℕ → Bool) (h : ℕ) (again : (n : ℕ) → f (h + n) ≡ f n) where
   again_often : (q n : ℕ) → f (q * h + n) ≡ f n

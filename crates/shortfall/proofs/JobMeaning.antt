@@ -1,13 +1,12 @@
 -- What is told of one job is exact for all time: the short windows of a cycle come again in every other, and there are no more.
 use mathlib.Core.Path.{◌≡◌, refl, sym, ap, subst, ◌∙◌}
-use mathlib.Core.Bool.{Bool, true, false, cond}
+use mathlib.Core.Bool.{Bool, true, false}
 use mathlib.Core.List.{List}
 use Prim.Native.Nat.{ℕ, ◌+◌, ◌*◌, ◌≤◌, ◌<◌}
 use native.Mathlib.Nat.{div-mul_cancel}
 use native.Mathlib.Omega.{arith}
-use lib.Dec.{eqb}
 use lib.ListN.{length}
-use borrow.Author.Tests.{eqb-true, eqb-false}
+use Rattle.std.specs.Prelude.{Option, None}
 use Rattle.job.specs.declared.list.JobList.{JobList}
 use Rattle.job.specs.Limit.{cycle_most}
 use Rattle.job.specs.Sound.{SoundList}
@@ -28,31 +27,12 @@ use Rattle.rules.specs.Rules.{job_of, ends_short}
 use Rattle.rules.proofs.RepeatLaws.{again}
 use Rattle.rules.proofs.Meaning.{run_exists}
 use Rattle.shortfall.specs.declared.inner.Tally.{Tally}
-use Rattle.shortfall.specs.declared.answer.First.{First}
-use Rattle.shortfall.specs.declared.answer.First.TheVariants.{Never, Slot as InSlot}
 use Rattle.shortfall.specs.Tally.{no_tally, tally_of}
-use Rattle.shortfall.specs.Shortfall.{first_of, below_of}
+use Rattle.shortfall.specs.Shortfall.{below_of}
 use Rattle.shortfall.specs.Meaning.{JobTold}
-use Rattle.shortfall.proofs.CountLaws.{many_same, many_none, many_often, none_ever}
-use Rattle.shortfall.proofs.TallyLaws.{IsFirst, short_in, tally_counts, tally_none, tally_first}
+use Rattle.shortfall.proofs.CountLaws.{many_same, many_often, none_ever}
+use Rattle.shortfall.proofs.TallyLaws.{IsFirst, FirstIs, short_in, tally_counts, tally_none, tally_first}
 use Rattle.shortfall.proofs.NeverLaws.{short_of_run}
-
--- what the first slot told says of a tally
-abbrev pub Says : Tally → First → Type 0
-Says t Never = t.short ≡ 0
-Says t (InSlot n) = (0 < t.short) × (t.first ≡ n)
-
-pub first_says : (t : Tally) → Says t (first_of t)
-unfolding first_of
-first_says t = go (eqb t.short 0) refl
-  where
-    go : (b : Bool) → eqb t.short 0 ≡ b → Says t (cond b Never (InSlot t.first))
-    go true e = eqb-true t.short 0 e
-    go false e = let some = eqb-false t.short 0 e in (omega arith, refl)
-
-pub never_of : first_of no_tally ≡ Never
-unfolding first_of
-never_of = refl
 
 module _
     (l : JobList) (setting : Setting) (jobs : SoundList l) (allowed : Allowed setting) (h : ℕ) (cycle : LeastCommonMultiple l h)
@@ -73,14 +53,16 @@ module _
   counted : tally.short ≡ how_many falls h
   counted = tally_counts fresh j h ∙ count_is falls falls h (λ i inside. refl)
 
+  first_of : {first : Option ℕ} → tally.first ≡ first → FirstIs falls h first
+  first_of e = subst (FirstIs falls h) e (tally_first fresh j h)
+
   -- the rules' words, of a run
   module _ (slots : List Slot) (state : State) (run : Run l setting slots state) where
     told : (n : ℕ) → n < length (bytes_of slots) → falls n ≡ ends_short l setting (bytes_of slots) n j
     told n inside = short_of_run l setting jobs allowed slots state run n (omega (arith, bytes_long slots)) j listed
 
-    never_told : tally.short ≡ 0 → (n : ℕ) → n < length (bytes_of slots) → ends_short l setting (bytes_of slots) n j ≡ false
-    never_told none n inside =
-        sym (told n inside) ∙ none_ever falls h falls_again cycle.positive (many_none falls h (sym counted ∙ none)) n
+    never_told : tally.first ≡ None → (n : ℕ) → n < length (bytes_of slots) → ends_short l setting (bytes_of slots) n j ≡ false
+    never_told never n inside = sym (told n inside) ∙ none_ever falls h falls_again cycle.positive (first_of never) n
 
     first_told :
         (n : ℕ) → IsFirst falls h n → n < length (bytes_of slots)
@@ -114,13 +96,9 @@ module _
       record {
         windows = div-mul_cancel (window_of (job_of l j)) (cycle.common j listed);
         never = (
-          λ e slots state run. never_told slots state run (subst (Says tally) e (first_says tally)),
-          λ none. ap first_of (none_tallied none) ∙ never_of,
+          λ never slots state run. never_told slots state run never,
+          λ none. ap (λ (t : Tally). t.first) (none_tallied none),
         );
-        first =
-            λ n e.
-            let says = subst (Says tally) e (first_says tally) in
-            let first : IsFirst falls h n = subst (IsFirst falls h) says.1 (tally_first fresh j h says.0) in
-            (first.below, λ slots state run. first_told slots state run n first);
+        first = λ n e. ((first_of e).below, λ slots state run. first_told slots state run n (first_of e));
         cycles = λ q slots state run. cycles_told slots state run q;
       }

@@ -1,40 +1,36 @@
 -- The run of one cycle: the tallies of the jobs, from slot to slot and along the pass over the places of each.
-use mathlib.Core.Path.{◌≡◌, refl, sym, ap, ◌∙◌}
+use mathlib.Core.Path.{◌≡◌, refl, sym, ap, subst, ◌∙◌}
 use mathlib.Core.Bool.{Bool, true, false, cond}
 use mathlib.Core.List.{List}
 use Prim.Native.Nat.{ℕ, zero, suc, ◌+◌, ◌≤◌, ◌<◌}
 use native.Mathlib.Numerals.{add-one}
-use native.Mathlib.Decide.{ℕ_discrete, dec_lt}
+use native.Mathlib.Decide.{dec_lt}
 use native.Mathlib.Omega.{arith}
-use lib.Dec.{eqb}
 use lib.ListN.{length, set, replicate, length-set}
-use lib.Seq.{get_or-set_same, get_or-set_other, ext_get_or}
-use borrow.Author.Tests.{eqb-true, eqb-false, ne_eqb}
+use lib.Seq.{ext_get_or}
+use Rattle.std.proofs.lemmas.Grind.{common_steps}
+use Rattle.std.specs.Prelude.{Option, None, Some}
+use Rattle.std.specs.Option.{option_or}
 use Rattle.job.specs.Limit.{count_most}
 use Rattle.job.proofs.FilledLaws.{none_at, filled_long, filled_at, filled_past}
 use Rattle.run.specs.declared.state.State.{State}
 use Rattle.run.specs.Slot.{count_upto}
 use Rattle.run.specs.Run.{after_slots}
 use Rattle.run.proofs.SlotLaws.{count_high, count_is}
-use Rattle.shortfall.specs.declared.inner.Tally.{Tally}
 use Rattle.shortfall.proofs.CountLaws.{many_none}
+use Rattle.shortfall.specs.declared.inner.Tally.{Tally}
 use Rattle.shortfall.specs.Tally.{ends_short_in, no_tally, noted_of, tally_of, tally_at, tallies_of}
-
--- one short window more
-module _ (t : Tally) (n : ℕ) where
-  pub first_noted : t.short ≡ 0 → ◌≡◌ {A = Tally} (record { short = 1; first = n }) (noted_of t n)
-  unfolding noted_of
-  first_noted none = rw none
-
-  pub later_noted : ¬ (t.short ≡ 0) → ◌≡◌ {A = Tally} (record { short = t.short + 1; first = t.first }) (noted_of t n)
-  unfolding noted_of
-  later_noted some = rw (ne_eqb t.short 0 some)
 
 -- x is the first of the numbers below n with a property
 pub record IsFirst (f : ℕ → Bool) (n x : ℕ) : Type 0 where
   pub below : x < n
   pub has : f x ≡ true
   pub none_before : (i : ℕ) → i < x → f i ≡ false
+
+-- what a first slot says of the numbers below n with a property: it is the first of them, or there are none
+abbrev pub FirstIs : (ℕ → Bool) → ℕ → Option ℕ → Type 0
+FirstIs f n None = (i : ℕ) → i < n → f i ≡ false
+FirstIs f n (Some x) = IsFirst f n x
 
 -- what a tally counts: the slots in which a window of the job ends short, and the first of them
 module _ (s : State) (j : ℕ) where
@@ -60,34 +56,38 @@ module _ (s : State) (j : ℕ) where
   tally_none zero none = refl
   tally_none (suc n) none = rw (none n (omega arith)) (tally_none n (λ i h. none i (omega arith)))
 
-  pub tally_first : (n : ℕ) → 0 < (tally_of s j n).short → IsFirst short_in n (tally_of s j n).first
+  pub tally_first : (n : ℕ) → FirstIs short_in n (tally_of s j n).first
   unfolding tally_of noted_of
-  tally_first zero some = absurd (omega arith)
-  tally_first (suc n) some = go (short_in n) refl (tally_first n) some
+  tally_first zero = λ i h. absurd (omega arith)
+  tally_first (suc n) = go (short_in n) refl (tally_of s j n) (tally_first n)
     where
-      was : Tally
-      was = tally_of s j n
-
       later : {x : ℕ} → IsFirst short_in n x → IsFirst short_in (suc n) x
       later f = record { below = let b = f.below in omega arith; has = f.has; none_before = f.none_before }
 
-      new : short_in n ≡ true → (none : Bool) → eqb was.short 0 ≡ none → (0 < was.short → IsFirst short_in n was.first) → IsFirst short_in (suc n) (cond none n was.first)
-      new ends true e before =
-          record {
-            below = omega arith;
-            has = ends;
-            none_before = many_none short_in n (sym (count_is short_in short_in n (λ i h. refl)) ∙ sym (tally_counts n) ∙ eqb-true was.short 0 e);
-          }
-      new ends false e before = later (before (let some = eqb-false was.short 0 e in omega arith))
+      new : short_in n ≡ true → (first : Option ℕ) → FirstIs short_in n first → FirstIs short_in (suc n) (option_or first (Some n))
+      new ends None none = record { below = omega arith; has = ends; none_before = none }
+      new ends (Some x) before = later before
 
-      go :
-          (b : Bool) → short_in n ≡ b → (0 < was.short → IsFirst short_in n was.first) → 0 < (cond b (noted_of was n) was).short
-          → IsFirst short_in (suc n) (cond b (noted_of was n) was).first
-      go true e before some = new e (eqb was.short 0) refl before
-      go false e before some = later (before some)
+      same : short_in n ≡ false → (first : Option ℕ) → FirstIs short_in n first → FirstIs short_in (suc n) first
+      same full None none = λ i h. grind (arith, none i)
+      same full (Some x) before = later before
+
+      go : (b : Bool) → short_in n ≡ b → (t : Tally) → FirstIs short_in n t.first → FirstIs short_in (suc n) (cond b (noted_of t n) t).first
+      go true e t before = new e t.first before
+      go false e t before = same e t.first before
+
+  -- no first slot exactly where no window is short
+  pub never_none : (n : ℕ) → (tally_of s j n).first ≡ None → (tally_of s j n).short ≡ 0
+  never_none n never = ap (λ (t : Tally). t.short) (tally_none n (subst (FirstIs short_in n) never (tally_first n)))
+
+  pub none_never : (n : ℕ) → (tally_of s j n).short ≡ 0 → (tally_of s j n).first ≡ None
+  none_never n none =
+      ap (λ (t : Tally). t.first)
+      (tally_none n (many_none short_in n (sym (count_is short_in short_in n (λ i h. refl)) ∙ sym (tally_counts n) ∙ none)))
 
 -- before slot n, or in it when the first i jobs are told
 pub record Tallied (s : State) (n i : ℕ) (tallies : List Tally) : Type 0 where
+  pub few : s.count ≤ count_most
   pub long : length tallies ≡ count_most
   pub told : (j : ℕ) → j < i → j < s.count → tally_at tallies j ≡ tally_of s j (n + 1)
   pub untold : (j : ℕ) → i ≤ j → j < s.count → tally_at tallies j ≡ tally_of s j n
@@ -101,18 +101,19 @@ none_yet : (s : State) (j : ℕ) → tally_of s j 0 ≡ no_tally
 unfolding tally_of
 none_yet s j = refl
 
-pub tallies_start : (s : State) {none : Tally} → none ≡ no_tally → Tallied s 0 0 (replicate count_most none)
+pub tallies_start : (s : State) → s.count ≤ count_most → {none : Tally} → none ≡ no_tally → Tallied s 0 0 (replicate count_most none)
 unfolding tally_of
-tallies_start s e =
+tallies_start s few e =
     rw e
     (record {
+      few = few;
       long = refl;
       told = λ j h listed. absurd (omega arith);
       untold = λ j h listed. none_at no_tally count_most j;
       past = λ j h. none_at no_tally count_most j;
     })
 
-module _ (s : State) (few : s.count ≤ count_most) {n i : ℕ} {tallies : List Tally} (t : Tallied s n i tallies) where
+module _ {s : State} {n i : ℕ} {tallies : List Tally} (t : Tallied s n i tallies) where
   -- the tally that is read: no more windows are short than there were slots
   pub tally_now : i < s.count → (tally_at tallies i).short ≤ n
   tally_now listed = rw (t.untold i (omega arith) listed) (tally_high s i n)
@@ -125,36 +126,33 @@ module _ (s : State) (few : s.count ≤ count_most) {n i : ℕ} {tallies : List 
     pub tallies_more : {tally : Tally} → short ≡ true → tally ≡ noted_of (tally_at tallies i) n → Tallied s n (i + 1) (set tallies i tally)
     tallies_more {tally} ends counts =
         record {
+          few = t.few;
           long = length-set tallies i tally ∙ t.long;
-          told = λ j h inside. go j h inside (ℕ_discrete j i);
-          untold = λ j h inside. get_or-set_other tallies i j tally no_tally (omega arith) ∙ t.untold j (omega arith) inside;
-          past = λ j h. get_or-set_other tallies i j tally no_tally (omega arith) ∙ t.past j h;
+          told = λ j h inside. grind (arith, common_steps, now, t.told j);
+          untold = λ j h inside. grind (arith, common_steps, t.untold j);
+          past = λ j h. grind (arith, common_steps, t.past j);
         }
       where
         now : tally ≡ tally_of s i (n + 1)
         now = counts ∙ sym (next ∙ ap (λ (b : Bool). cond b (noted_of (tally_at tallies i) n) (tally_at tallies i)) ends)
 
-        go : (j : ℕ) → j < i + 1 → j < s.count → Dec (j ≡ i) → tally_at (set tallies i tally) j ≡ tally_of s j (n + 1)
-        go j h inside (yes e) = rw e (get_or-set_same tallies i tally no_tally (omega (arith, t.long)) ∙ now)
-        go j h inside (no ne) = get_or-set_other tallies i j tally no_tally ne ∙ t.told j (omega arith) inside
-
     pub tallies_same : short ≡ false → Tallied s n (i + 1) tallies
     tallies_same full =
         record {
+          few = t.few;
           long = t.long;
-          told = λ j h inside. go j h inside (ℕ_discrete j i);
+          told = λ j h inside. grind (arith, now, t.told j);
           untold = λ j h inside. t.untold j (omega arith) inside;
           past = t.past;
         }
       where
-        go : (j : ℕ) → j < i + 1 → j < s.count → Dec (j ≡ i) → tally_at tallies j ≡ tally_of s j (n + 1)
-        go j h inside (yes e) = rw e (sym (next ∙ ap (λ (b : Bool). cond b (noted_of (tally_at tallies i) n) (tally_at tallies i)) full))
-        go j h inside (no ne) = t.told j (omega arith) inside
+        now : tally_at tallies i ≡ tally_of s i (n + 1)
+        now = sym (next ∙ ap (λ (b : Bool). cond b (noted_of (tally_at tallies i) n) (tally_at tallies i)) full)
 
   -- all of them
   pub tallies_next : i ≡ s.count → Tallied s (n + 1) 0 tallies
   tallies_next all =
-      record { long = t.long; told = λ j h inside. absurd (omega arith); untold = λ j h inside. t.told j (omega arith) inside; past = t.past }
+      record { few = t.few; long = t.long; told = λ j h inside. absurd (omega arith); untold = λ j h inside. t.told j (omega arith) inside; past = t.past }
 
   pub tallies_done : i ≡ 0 → tallies ≡ tallies_of s n
   tallies_done none =
@@ -162,7 +160,7 @@ module _ (s : State) (few : s.count ≤ count_most) {n i : ℕ} {tallies : List 
       (λ j h. go j (dec_lt j s.count))
     where
       go : (j : ℕ) → Dec (j < s.count) → tally_at tallies j ≡ tally_at (tallies_of s n) j
-      go j (yes inside) = t.untold j (omega arith) inside ∙ sym (filled_at no_tally (λ x. tally_of s x n) s.count j inside few)
+      go j (yes inside) = t.untold j (omega arith) inside ∙ sym (filled_at no_tally (λ x. tally_of s x n) s.count j inside t.few)
       go j (no out) = t.past j (omega arith) ∙ sym (filled_past no_tally (λ x. tally_of s x n) s.count j (omega arith))
 
 -- where no job has a short window
@@ -170,12 +168,13 @@ pub tallies_none :
     (s : State) → s.count ≤ count_most → (n : ℕ) {none : Tally} → none ≡ no_tally → ((j : ℕ) → j < s.count → tally_of s j n ≡ no_tally)
     → replicate count_most none ≡ tallies_of s n
 tallies_none s few n is never =
-    let start = tallies_start s is in
+    let start = tallies_start s few is in
     let still : Tallied s n 0 (replicate count_most _) =
     record {
+      few = few;
       long = start.long;
       told = λ j h listed. absurd (omega arith);
       untold = λ j h listed. start.untold j h listed ∙ none_yet s j ∙ sym (never j listed);
       past = start.past;
     } in
-    tallies_done s few still refl
+    tallies_done still refl

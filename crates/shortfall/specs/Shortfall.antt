@@ -1,10 +1,8 @@
 -- 'for each job, how many windows a cycle has (H / kT), how many of them end short, and the first slot in which one does, or never'
-use Rattle.std.specs.Prelude.{ℕ, ◌/◌, Bool, cond, List, [], eqb, ltb, replicate}
+use Rattle.std.specs.Prelude.{ℕ, ◌/◌, cond, List, [], ltb, None}
 use Rattle.job.specs.declared.record.Job.{Job}
 use Rattle.job.specs.declared.list.JobList.{JobList}
-use Rattle.job.specs.declared.refusal.Checked.{Checked}
-use Rattle.job.specs.declared.refusal.Checked.TheVariants.{Passed}
-use Rattle.job.specs.Limit.{count_most, cycle_most}
+use Rattle.job.specs.Limit.{cycle_most}
 use Rattle.job.specs.Told.{Told, row, passed}
 use Rattle.job.specs.Check.{job_at, otherwise}
 use Rattle.job.specs.Filled.{filled_upto}
@@ -15,30 +13,21 @@ use Rattle.run.specs.State.{fresh_of}
 use Rattle.run.specs.Slot.{count_upto}
 use Rattle.run.specs.Step.{start_told}
 use Rattle.shortfall.specs.declared.inner.Tally.{Tally}
-use Rattle.shortfall.specs.declared.answer.First.{First}
-use Rattle.shortfall.specs.declared.answer.First.TheVariants.{Never, Slot}
 use Rattle.shortfall.specs.declared.answer.Below.{Below}
 use Rattle.shortfall.specs.declared.answer.Judgement.{Judgement}
 use Rattle.shortfall.specs.Tally.{tally_at, tallies_of}
 
 -- one job, by its short windows in one cycle
-unfoldable pub first_of : Tally → First
-first_of t = cond (eqb t.short 0) Never (Slot t.first)
-
 abbrev pub below_of : Job → ℕ → Tally → Below
-below_of job cycle t = record { windows = cycle / window_of job; short = t.short; first = first_of t }
+below_of job cycle t = record { windows = cycle / window_of job; short = t.short; first = t.first }
 
 abbrev pub none_below : Below
-none_below = record { windows = 0; short = 0; first = Never }
-
-abbrev pub nothing_judged : Checked → Judgement
-nothing_judged answer = record { answer = answer; fallen = 0; jobs = replicate count_most none_below }
+none_below = record { windows = 0; short = 0; first = None }
 
 -- the first n jobs of a list
 abbrev pub judged_upto : JobList → ℕ → List Tally → ℕ → Judgement
 judged_upto l cycle tallies n =
     record {
-      answer = Passed;
       fallen = count_upto (λ i. ltb 0 (tally_at tallies i).short) n;
       jobs = filled_upto none_below (λ i. below_of (job_at l.jobs i) cycle (tally_at tallies i)) n;
     }
@@ -53,12 +42,3 @@ shortfall_told l setting = otherwise (start_told l setting) (cond (ltb cycle_mos
 -- 'runs one cycle from slot 0'
 abbrev pub cycle_judged : JobList → Setting → Judgement
 cycle_judged l setting = judged_of l (cycle_of l) (tallies_of (fresh_of l setting) (cycle_of l))
-
-abbrev judges : JobList → Setting → Bool
-judges l setting = eqb (shortfall_told l setting).number 0
-
-unfoldable pub shortfall_count : JobList → Setting → ℕ
-shortfall_count l setting = cond (judges l setting) (cycle_judged l setting).fallen 0
-
-unfoldable pub shortfall_jobs : JobList → Setting → List Below
-shortfall_jobs l setting = cond (judges l setting) (cycle_judged l setting).jobs (replicate count_most none_below)

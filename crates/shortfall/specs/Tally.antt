@@ -1,5 +1,6 @@
 -- The short windows of a job in the slots of a run, and the slot of the first.
-use Rattle.std.specs.Prelude.{ℕ, zero, suc, ◌+◌, ◌≡◌, Bool, false, cond, List, eqb, get_or}
+use Rattle.std.specs.Prelude.{ℕ, zero, suc, ◌+◌, ◌≡◌, Bool, false, cond, List, get_or, None, Some}
+use Rattle.std.specs.Option.{option_or}
 use Rattle.job.specs.Filled.{filled_upto}
 use Rattle.run.specs.declared.state.State.{State}
 use Rattle.run.specs.State.{place_at}
@@ -17,11 +18,11 @@ abbrev pub NoTags : State → Type 0
 NoTags s = (j : ℕ) → (place_at s.places j).at.tag ≡ false
 
 abbrev pub no_tally : Tally
-no_tally = record { short = 0; first = 0 }
+no_tally = record { short = 0; first = None }
 
--- one short window more, which ends with slot n
+-- one short window more, which ends with slot n: the first, if there was none
 unfoldable pub noted_of : Tally → ℕ → Tally
-noted_of t n = record { short = t.short + 1; first = cond (eqb t.short 0) n t.first }
+noted_of t n = record { short = t.short + 1; first = option_or t.first (Some n) }
 
 -- job j in the next n slots, numbered from 0
 unfoldable pub tally_of : State → ℕ → ℕ → Tally

@@ -1,27 +1,19 @@
 // What is answered of each job of a list.
-use job::{Checked, JobList};
-
-// The first slot in which a window of a job ends short.
-#[derive(Clone, Copy)]
-pub enum First {
-    Never,
-    Slot(u32),
-}
+use job::JobList;
 
 // One job: the windows that a cycle has, how many of them end short, and the first slot in which
-// one does.
-#[derive(Clone, Copy)]
+// one does, or none.
+#[derive(Clone, Copy, Debug, PartialEq, Eq)]
 pub struct Below {
     pub windows: u32,
     pub short: u32,
-    pub first: First,
+    pub first: Option<u32>,
 }
 
-// The answer for a list: `fallen` jobs fall below their part. Past the last job, and where the
-// list is refused, every number is 0 and the slot is never.
-#[derive(Clone, Copy)]
+// The answer for a list, in fixed memory: `fallen` jobs fall below their part. Past the last job every number is 0
+// and no slot is named.
+#[derive(Clone, Copy, Debug, PartialEq, Eq)]
 pub struct Judgement {
-    pub answer: Checked,
     pub fallen: usize,
     pub jobs: [Below; JobList::COUNT_MOST],
 }

@@ -6,5 +6,5 @@ mod answer;
 mod inner;
 mod judge;
 
-pub use answer::{Below, First, Judgement};
+pub use answer::{Below, Judgement};
 pub use judge::shortfall;

@@ -1,19 +1,17 @@
--- The loop's invariant: the answers of the jobs before `job` are written, up to `end`.
-use native.Mathlib.Omega.{arith}
+-- The answers so far, and the next one behind them.
 use Rattle.entry.proofs.BelowLaws.{answers_start, answers_room, answers_more}
 use Rattle.entry.proofs.answers.put_answers.Goals as goal
 
-pub loop-job-init : goal.loop-job-init
-loop-job-init c = let a = c.args in (omega arith, answers_start a.jobs a.buf.now a.count (omega arith))
+pub loop-below-init : goal.loop-below-init
+loop-below-init c = answers_start c.args.jobs.now c.args.buf.now c.requires
 
 pub put_below-end-requires : goal.put_below-end-requires
 put_below-end-requires c =
-    let a = c.args in
-    let loop = c.loop-job in
-    answers_room a.jobs a.buf.now a.count (omega arith) loop.job (omega arith) loop.invariant.1
+    let loop = c.loop-below in
+    answers_room c.args.jobs.now c.args.buf.now c.requires loop.below-index c.loop-below-test.true loop.invariant
 
-pub loop-job-preserved : goal.loop-job-preserved
-loop-job-preserved c =
-    let a = c.args in
-    let loop = c.loop-job in
-    (omega arith, answers_more a.jobs a.buf.now a.count (omega arith) loop.job (omega arith) loop.invariant.1 (c.put_below-end.ensures.value, c.put_below-end.ensures.buf_after))
+pub loop-below-preserved : goal.loop-below-preserved
+loop-below-preserved c =
+    let loop = c.loop-below in
+    let written = c.put_below-end.ensures in
+    answers_more c.args.jobs.now c.args.buf.now c.requires loop.below-index c.loop-below-test.true loop.invariant written.value written.buf_after

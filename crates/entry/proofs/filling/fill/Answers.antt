@@ -1,39 +1,42 @@
 -- Row 14, a refused start, or what the writer answers on the started state.
 use mathlib.Core.Path.{◌≡◌, refl, sym, ap, ◌∙◌}
-use Prim.Native.Nat.{ℕ}
 use lib.Dec.{eqb}
 use lib.ListN.{length}
-use borrow.Author.Tests.{ne_eqb}
-use Rattle.job.specs.Told.{Told}
+use Rattle.std.proofs.lemmas.Result.{err_from_is_err_and}
+use Rattle.job.specs.Told.{Told, passed, told, told_checked}
+use Rattle.job.proofs.ToldLaws.{told_refuses}
 use Rattle.run.specs.Step.{start_told}
 use Rattle.entry.specs.JobBytes.{list_from}
-use Rattle.entry.proofs.EntryLaws.{fill_broken, fill_starts, bytes_stay, writes_on}
+use Rattle.entry.proofs.EntryLaws.{read_whole, read_broken, fill_broken, fill_starts, bytes_stay, writes_on}
 use Rattle.entry.proofs.filling.fill.Goals as goal
 
-pub returns-then-jobs-ne0 : goal.returns-then-jobs-ne0
-returns-then-jobs-ne0 c =
-    let args = c.args in
-    let told = fill_broken args.jobs.now args.setting (length args.buf.now) args.offset args.n c.if-jobs-ne0.true in
-    (c.number.ensures ∙ ap (λ (t : Told). t.number) (sym told), bytes_stay _ _ _ _ _ told refl)
+pub returns-in_err-list_from : goal.returns-in_err-list_from
+returns-in_err-list_from c =
+    let a = c.args in
+    let p = err_from_is_err_and c.from_residual.result c.from_residual.ensures.1 in
+    let broken = read_broken a.jobs.now c.in_err-list_from.field-0.0 c.in_err-list_from.ensures.0 in
+    let told = fill_broken a.jobs.now a.setting (length a.buf.now) a.offset a.n broken.0 in
+    rw (p.1, p.2) (broken.1 ∙ sym told, bytes_stay _ _ _ _ _ told refl)
 
-pub returns-then-refused-ne0 : goal.returns-then-refused-ne0
-returns-then-refused-ne0 c =
-    let args = c.args in
-    let number : c.number-refused.result ≡ (start_told (list_from args.jobs.now) args.setting).number =
-    cc (c.number-refused.ensures, c.start-started.ensures.0, c.list_from.ensures) in
-    let refused = ap (λ (x : ℕ). eqb x 0) (sym number) ∙ ne_eqb c.number-refused.result 0 c.if-refused-ne0.true in
-    let told = fill_starts args.jobs.now args.setting (length args.buf.now) args.offset args.n c.if-jobs-ne0.false refused in
-    (number ∙ ap (λ (t : Told). t.number) (sym told), bytes_stay _ _ _ _ _ told refused)
+pub returns-in_err-started : goal.returns-in_err-started
+returns-in_err-started c =
+    let a = c.args in
+    let p = err_from_is_err_and c.from_residual-in_err-started.result c.from_residual-in_err-started.ensures.1 in
+    let r = c.in_err-started.field-0.0 in
+    let read = c.in_ok-list_from.ensures in
+    let start : start_told (list_from a.jobs.now) a.setting ≡ told r =
+    cc (c.start-started.ensures.0, read.1, ap told_checked c.in_err-started.was) in
+    let refused = ap (λ (t : Told). eqb t.number 0) start ∙ told_refuses r in
+    let told = fill_starts a.jobs.now a.setting (length a.buf.now) a.offset a.n (read_whole a.jobs.now read.0) refused ∙ start in
+    rw (p.1, p.2) (sym told, bytes_stay _ _ _ _ _ told (told_refuses r))
 
 pub returns : goal.returns
 returns c =
-    let args = c.args in
-    let whole = c.if-jobs-ne0.false in
-    let number : c.number-refused.result ≡ (start_told (list_from args.jobs.now) args.setting).number =
-    cc (c.number-refused.ensures, c.start-started.ensures.0, c.list_from.ensures) in
-    let passes = sym number ∙ c.if-refused-ne0.false in
+    let a = c.args in
+    let read = c.in_ok-list_from.ensures in
+    let start : start_told (list_from a.jobs.now) a.setting ≡ passed =
+    cc (c.start-started.ensures.0, read.1, ap told_checked c.in_ok-started.was) in
     let state = c.start-started.ensures.1 in
-    let list = c.list_from.ensures in
-    let write = c.write-written.ensures in
-    let on = writes_on args.jobs.now args.setting args.buf.now args.offset args.n whole passes in
-    (cc (c.number-2.ensures, write.0, state, list, on.told_is), cc (write.2, state, list, on.bytes_are))
+    let write = c.write.ensures in
+    let on = writes_on a.jobs.now a.setting a.buf.now a.offset a.n (read_whole a.jobs.now read.0) (ap (λ (t : Told). t.number) start) in
+    (cc (write.0, state, read.1, on.told_is), cc (write.2, state, read.1, on.bytes_are))

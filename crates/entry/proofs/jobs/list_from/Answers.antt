@@ -1,18 +1,14 @@
--- The loop's invariant: the jobs before `at` are read.
-use mathlib.Core.Path.{◌∙◌}
-use native.Mathlib.Omega.{arith}
+-- Row 14, or the list by the calls that read its jobs.
+use mathlib.Core.Path.{sym}
+use Rattle.std.proofs.Common.{rules}
+use Rattle.job.proofs.FilledLaws.{by_calls}
 use Rattle.entry.specs.JobBytes.{job_from}
-use Rattle.job.proofs.WalkLaws.{below_first, below_second}
-use Rattle.job.proofs.FilledLaws.{none_put, one_more_put}
+use Rattle.entry.proofs.EntryLaws.{whole_told, broken_told}
 use Rattle.entry.proofs.jobs.list_from.Goals as goal
 
-pub loop-at-init : goal.loop-at-init
-loop-at-init c = (omega arith, omega arith, c.empty-list.ensures ∙ none_put (job_from c.args.bytes.now) _)
+pub returns-then-bytes-ne0 : goal.returns-then-bytes-ne0
+returns-then-bytes-ne0 c = (sym (broken_told _ _ c.if-bytes-ne0.true), tt)
 
-pub loop-at-preserved : goal.loop-at-preserved
-loop-at-preserved c =
-    let loop = c.loop-at in (
-      omega (arith, below_first),
-      omega (arith, below_second),
-      one_more_put (job_from c.args.bytes.now) _ loop.at loop.invariant.2 c.job_from-job.ensures,
-    )
+pub returns : goal.returns
+returns c =
+    (sym (whole_told _ _ c.if-bytes-ne0.false), by_calls _ (job_from c.args.bytes.now) _ _ c.by.ensures (λ at j h called. search rules))

@@ -3,78 +3,49 @@
 // in order.
 #![tactic(auto)]
 
-ghost use Rattle.std.specs.Prelude.{◌≡◌, ◌+◌, ◌*◌, ◌≤◌, length};
+ghost use Rattle.std.specs.Prelude.{◌+◌, ◌*◌, ◌≤◌, length};
 ghost use Rattle.job.specs.Limit.{count_most};
 
-use job::Checked;
 use sheet::Sheet;
-use shortfall::Judgement;
+use shortfall::Below;
 use std::io;
 
-// A line for each job, from the place `at` of the buffer on.
-fn put_jobs(out: &mut [u8], at: usize, count: usize, judged: Judgement) -> usize
-    requires out_len { length out.old ≡ 4096 }
-    requires at_bound { at ≤ 192 }
-    requires count_le_count_most { count ≤ count_most }
-    ensures { result ≤ 192 * (count + 1) }
-{
-    let mut end = at;
-    let mut job: usize = 0;
-    while job < count {
-        let mut line = [0u8; 192];
-        let n = lines::job_line(&mut line, job, judged.jobs[job]);
-        end = text::inner::put_text(out, end, &line[..n]);
-        job += 1;
-    }
-    end
-}
+// At most 18 lines of 192 bytes each fit.
+type Report = text::Text<4096>;
 
-// A line for each job and the last line, from the place `at` of the buffer on; or that nothing is
-// judged.
-fn put_judged(out: &mut [u8], at: usize, count: usize, judged: Judgement) -> usize
-    requires out_len { length out.old ≡ 4096 }
-    requires at_bound { at ≤ 192 }
-    requires count_le_count_most { count ≤ count_most }
-    ensures { result ≤ 4096 }
+// A line for each job.
+fn put_jobs(out: &mut Report, jobs: &[Below])
+    requires { length out.old + 192 * length jobs.now ≤ 4096 }
+    ensures { length out.new ≤ length out.old + 192 * length jobs.now }
 {
-    let answer = judged.answer;
-    match answer {
-        Checked::Passed => {
-            let end = put_jobs(out, at, count, judged);
-            let mut line = [0u8; 192];
-            let n = lines::fallen_line(&mut line, judged.fallen, count);
-            text::inner::put_text(out, end, &line[..n])
-        }
-        Checked::Refused(_) => text::inner::put_text(out, at, b"not judged\n"),
+    for (job, below) in jobs.iter().enumerate() {
+        out.put(lines::job_line(job, *below).as_slice());
     }
 }
 
-// At most 18 lines of 192 bytes each: one buffer holds them all.
 fn print_judged(rt: &impl Print, sheet: Sheet) -> io::Result<()>
     requires { sheet.list.count ≤ count_most }
 {
-    let mut out = [0u8; 4096];
-    let mut line = [0u8; 192];
-    let setting = sheet.setting;
-    let list = sheet.list;
-    let n = lines::admission_line(&mut line, admission::verdict(list, setting.model));
-    let first = text::inner::put_text(&mut out, 0, &line[..n]);
-    let judged = shortfall::shortfall(list, setting);
-    let end = put_judged(&mut out, first, list.count, judged);
-    rt.write_all(&out[..end])
+    let mut out = Report::new();
+    let count = sheet.list.count;
+    let admitted = admission::verdict(sheet.list, sheet.setting.model);
+    out.put(lines::admission_line(admitted).as_slice());
+    match shortfall::shortfall(sheet.list, sheet.setting) {
+        Ok(judged) => {
+            put_jobs(&mut out, &judged.jobs[..count]);
+            out.put(lines::fallen_line(judged.fallen, count).as_slice());
+        }
+        Err(_) => out.put(b"not judged\n"),
+    }
+    rt.write_all(out.as_slice())
 }
 
+// Reads as `slots` does: each program has a `main` of its own, and the two are a few lines.
 fn main(rt: HostRuntime) -> io::Result<()> {
-    let mut bytes = [0u8; 4097];
+    let mut bytes = [0u8; Sheet::BYTES_MOST + 1];
     let got = input::read_full(&mut rt.stdin(), &mut bytes)?;
-    let read = sheet::read(&bytes[..got]);
-    let answer = read.answer;
-    match answer {
-        Checked::Passed => print_judged(&rt, read.sheet),
-        Checked::Refused(refusal) => {
-            let mut line = [0u8; 192];
-            let n = lines::refusal_line(&mut line, refusal);
-            rt.write_all(&line[..n])
-        }
+    match sheet::read(&bytes[..got]) {
+        Ok(sheet) => print_judged(&rt, sheet),
+        Err(refusal) => rt.write_all(lines::refusal_line(refusal).as_slice()),
     }
 }

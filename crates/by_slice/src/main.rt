@@ -1,112 +1,94 @@
 // The same lists by slice and by value: each line prints what admission answers of both.
 #![tactic(auto)]
 
-use admission::{Admission, admit_first, verdict};
-use job::{Job, JobList};
+use admission::{Admission, admit_first, amounts, verdict};
+use job::{Job, JobList, number_of};
 use std::io;
 
-// A job in the document's order, C T m k.
-fn job(c: u32, t: u32, m: u32, k: u32) -> Job {
-    Job { c, t, m, k }
+// The first and the sixteenth job of a list, whose other jobs are alike.
+#[derive(Clone, Copy)]
+struct Ends {
+    first: Job,
+    last: Job,
 }
 
-// 40 records, of which the first and the sixteenth are given, and the seventeenth is not allowed.
-fn records(first: Job, last: Job) -> [Job; 40] {
-    let mut jobs = [job(2, 60, 1, 2); 40];
-    jobs[0] = first;
-    jobs[15] = last;
-    jobs[16] = job(0, 0, 0, 0);
-    jobs
-}
+impl Ends {
+    // 40 records, of which the seventeenth is not allowed.
+    fn records(self) -> [Job; 40] {
+        let mut jobs = [Job::of(2, 60, 1, 2); 40];
+        jobs[0] = self.first;
+        jobs[15] = self.last;
+        jobs[16] = Job::none();
+        jobs
+    }
 
-// A list by value that has the first 16 of them, and any count.
-fn list(first: Job, last: Job, count: usize) -> JobList {
-    let mut jobs = [job(2, 60, 1, 2); 16];
-    jobs[0] = first;
-    jobs[15] = last;
-    JobList { jobs, count }
-}
-
-fn print(rt: &impl Print, text: &[u8]) -> io::Result<()> {
-    rt.write_all(text)
-}
-
-fn print_number(rt: &impl Print, number: u64) -> io::Result<()> {
-    rt.print(number)
+    // A list by value that has the first 16 of them, and any count.
+    fn list(self, count: usize) -> JobList {
+        let records = self.records();
+        JobList::by(count, |at| records[at])
+    }
 }
 
 fn print_answer(rt: &impl Print, answer: Admission) -> io::Result<()> {
-    print(rt, b" row ")?;
-    print_number(rt, answer.number() as u64)?;
-    print(rt, b" cycle ")?;
-    print_number(rt, answer.cycle())?;
-    print(rt, b" load ")?;
-    print_number(rt, answer.load())
+    let row = number_of(answer);
+    let both = amounts(answer);
+    print!(rt; " row {row} cycle {} load {}", both.cycle, both.load)
 }
 
-fn show(
-    rt: &impl Print,
-    name: &[u8],
-    first: Job,
-    last: Job,
-    count: usize,
-    model: u32,
-) -> io::Result<()> {
-    let by_slice = admit_first(records(first, last), count, model);
-    let by_value = verdict(list(first, last, count), model);
-    print(rt, name)?;
-    print(rt, b": by slice")?;
-    print_answer(rt, by_slice)?;
-    print(rt, b"; by value")?;
-    print_answer(rt, by_value)?;
-    print(rt, b"\n")
+fn show(rt: &impl Print, name: &str, ends: Ends, count: usize, model: u32) -> io::Result<()> {
+    print!(rt; "{name}: by slice")?;
+    print_answer(rt, admit_first(ends.records(), count, model))?;
+    print!(rt; "; by value")?;
+    print_answer(rt, verdict(ends.list(count), model))?;
+    println!(rt; "")
 }
 
-fn show_counts(rt: &impl Print, first: Job, last: Job) -> io::Result<()> {
-    show(rt, b"0 records", first, last, 0, Job::RELAXED)?;
-    show(rt, b"1 record", first, last, 1, Job::RELAXED)?;
-    show(rt, b"16 records", first, last, 16, Job::RELAXED)?;
-    show(rt, b"17 records", first, last, 17, Job::RELAXED)?;
-    show(rt, b"40 records", first, last, 40, Job::RELAXED)
+fn show_counts(rt: &impl Print, ends: Ends) -> io::Result<()> {
+    show(rt, "0 records", ends, 0, Job::RELAXED)?;
+    show(rt, "1 record", ends, 1, Job::RELAXED)?;
+    show(rt, "16 records", ends, 16, Job::RELAXED)?;
+    show(rt, "17 records", ends, 17, Job::RELAXED)?;
+    show(rt, "40 records", ends, 40, Job::RELAXED)
 }
 
-fn show_refusals(rt: &impl Print, first: Job, last: Job, wrong: Job) -> io::Result<()> {
+fn show_refusals(rt: &impl Print, ends: Ends, wrong: Job) -> io::Result<()> {
+    let first_wrong = Ends {
+        first: wrong,
+        ..ends
+    };
+    let last_wrong = Ends {
+        last: wrong,
+        ..ends
+    };
     show(
         rt,
-        b"16 records, the first not allowed",
-        wrong,
-        last,
+        "16 records, the first not allowed",
+        first_wrong,
         16,
         Job::RELAXED,
     )?;
     show(
         rt,
-        b"16 records, the last not allowed",
-        first,
-        wrong,
+        "16 records, the last not allowed",
+        last_wrong,
         16,
         Job::RELAXED,
     )?;
-    show(
-        rt,
-        b"16 records, original model",
-        first,
-        last,
-        16,
-        Job::ORIGINAL,
-    )?;
-    show(rt, b"40 records, model 2", first, last, 40, 2)
+    show(rt, "16 records, original model", ends, 16, Job::ORIGINAL)?;
+    show(rt, "40 records, model 2", ends, 40, 2)
 }
 
 fn main(rt: HostRuntime) -> io::Result<()> {
-    show_counts(&rt, job(1, 40, 1, 1), job(5, 90, 2, 3))?;
-    show_refusals(&rt, job(1, 40, 1, 1), job(5, 90, 2, 3), job(5, 90, 4, 3))?;
-    show(
-        &rt,
-        b"16 records, overload",
-        job(40, 40, 1, 1),
-        job(5, 90, 2, 3),
-        16,
-        Job::RELAXED,
-    )
+    let last = Job::of(5, 90, 2, 3);
+    let ends = Ends {
+        first: Job::of(1, 40, 1, 1),
+        last,
+    };
+    let over = Ends {
+        first: Job::of(40, 40, 1, 1),
+        last,
+    };
+    show_counts(&rt, ends)?;
+    show_refusals(&rt, ends, Job::of(5, 90, 4, 3))?;
+    show(&rt, "16 records, overload", over, 16, Job::RELAXED)
 }

@@ -1,22 +1,18 @@
 -- The text of a set: how long it is at most, and how it goes on from job to job.
-use mathlib.Core.Path.{◌≡◌, refl, sym, ◌∙◌, ap}
+use mathlib.Core.Path.{◌≡◌, refl, ◌∙◌, ap, subst}
 use mathlib.Core.Bool.{Bool, true, false, cond}
-use mathlib.Core.List.{List, [], ◌++◌, append-nil}
+use mathlib.Core.List.{List, [], ◌++◌, append-nil, append_assoc}
 use Prim.Native.Nat.{ℕ, zero, suc, ◌+◌, ◌*◌, ◌-◌, ◌/◌, ◌%◌, ◌^◌, ◌≤◌, ◌<◌}
-use native.Mathlib.Nat.{pow-suc, div-div-eq-div-mul}
+use native.Mathlib.Nat.{add-zero, add-suc}
 use native.Mathlib.Numerals.{add-one}
 use native.Mathlib.Decide.{dec_lt}
 use native.Mathlib.Omega.{arith}
-use lib.Dec.{eqb}
 use lib.ListN.{length, length-append}
 use borrow.Author.Tests.{eq-eqb, ne_eqb}
 use Rattle.job.specs.Limit.{count_most}
 use Rattle.run.specs.Answer.{member}
 use Rattle.text.specs.Decimal.{decimal_of}
-use Rattle.text.specs.Written.{written}
 use Rattle.text.proofs.DecimalLaws.{decimal_one, decimal_length}
-use Rattle.text.proofs.PrintLaws.{decimal_most}
-use Rattle.text.proofs.WrittenLaws.{Ends, ends, ends_length, followed}
 use Rattle.lines.specs.Parts.{labelled}
 use Rattle.lines.specs.Slot.{set_text}
 
@@ -28,14 +24,36 @@ job_length n h =
       | no l ↦ omega (arith, decimal_length 1 n (omega arith))
     ]
 
--- a mask without its first n + 1 bits
-pub half : (set n : ℕ) → set / 2 ^ n / 2 ≡ set / 2 ^ (n + 1)
-half set n = div-div-eq-div-mul set (2 ^ n) 2 ∙ ap (set /◌) (sym (ap (2 ^◌) (add-one n) ∙ pow-suc 2 n))
-
 module _ (label : List ℕ) (set : ℕ) where
   next : (n : ℕ) (b : Bool) → member set n ≡ b → set_text label set (suc n) ≡ set_text label set n ++ cond b (labelled label n) []
   unfolding set_text
   next n b e = rw e
+
+  -- how the text goes on from job to job
+  pub set_starts : set_text label set 0 ≡ []
+  unfolding set_text
+  set_starts = refl
+
+  pub set_with : (n : ℕ) → set / 2 ^ n % 2 ≡ 1 → set_text label set (n + 1) ≡ set_text label set n ++ labelled label n
+  set_with n inside = rw (add-one n) (next n true (eq-eqb (set / 2 ^ n % 2) 1 inside))
+
+  pub set_without : (n : ℕ) → (set / 2 ^ n % 2 ≡ 1 → ⊥) → set_text label set (n + 1) ≡ set_text label set n
+  set_without n out = rw (add-one n) (next n false (ne_eqb (set / 2 ^ n % 2) 1 out) ∙ append-nil (set_text label set n))
+
+  longer : (n k : ℕ) → length (set_text label set n) ≤ length (set_text label set (n + k))
+  longer n zero = rw (add-zero n) (omega arith)
+  longer n (suc k) =
+      rw (add-suc n k, next (n + k) (member set (n + k)) refl)
+      (omega (arith, longer n k, length-append (set_text label set (n + k)) (cond (member set (n + k)) (labelled label (n + k)) [])))
+
+  pub set_room :
+      (n : ℕ) → n < count_most → set / 2 ^ n % 2 ≡ 1
+      → length (set_text label set n) + length (labelled label n) ≤ length (set_text label set count_most)
+  set_room n few inside =
+      let k = count_most - (n + 1) in
+      let all : n + 1 + k ≡ count_most = omega arith in
+      let more = subst (λ (m : ℕ). length (set_text label set (n + 1)) ≤ length (set_text label set m)) all (longer (n + 1) k) in
+      omega (arith, ap length (set_with n inside), length-append (set_text label set n) (labelled label n))
 
   -- the first n jobs take 3 bytes each, and those from 10 on one more
   pub set_most : length label ≡ 2 → (n : ℕ) → n ≤ count_most → length (set_text label set n) ≤ 3 * n + (n - 10)
@@ -51,24 +69,4 @@ module _ (label : List ℕ) (set : ℕ) where
           (omega (arith, job_length n (omega arith)))
       go false e before = rw (next n false e, append-nil (set_text label set n)) (omega arith)
 
--- one turn of the loop that puts a set
-module _ (label : List ℕ) (set : ℕ) (two : length label ≡ 2) (b₀ : List ℕ) (at : ℕ) (room : at + 80 ≤ length b₀) where
-  module _ (n rest : ℕ) (few : n < count_most) (bits : rest ≡ set / 2 ^ n) {b : List ℕ} {end : ℕ} (before : Ends b₀ at (set_text label set n) b end) where
-    pub has_room : end + length label + 20 ≤ length b
-    has_room = omega (arith, ends_length before, set_most label set two n (omega arith))
-
-    test : eqb (rest % 2) 1 ≡ member set n
-    test = ap (λ (x : ℕ). eqb (x % 2) 1) bits
-
-    -- a job of the set is put, and another is not
-    pub put_in :
-        {b' : List ℕ} {end' : ℕ} → rest % 2 ≡ 1 → (end' ≡ end + length (labelled label n)) × (b' ≡ written b end (labelled label n))
-        → Ends b₀ at (set_text label set (n + 1)) b' end'
-    put_in inside put =
-        rw (add-one n, next label set n true (sym test ∙ eq-eqb (rest % 2) 1 inside))
-        (followed before
-        (ends b end (labelled label n) put (omega (arith, has_room, length-append label (decimal_of n), decimal_most n))))
-
-    pub put_out : (rest % 2 ≡ 1 → ⊥) → Ends b₀ at (set_text label set (n + 1)) b end
-    put_out out =
-        rw (add-one n, next label set n false (sym test ∙ ne_eqb (rest % 2) 1 out), append-nil (set_text label set n)) before
+pub ruleset members = (append_assoc, append-nil, length-append, set_starts, set_with, set_without, set_room)

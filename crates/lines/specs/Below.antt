@@ -1,16 +1,14 @@
 -- What is said of each job of a judged list, and of the list.
-use Rattle.std.specs.Prelude.{ℕ, cond, List, ◌++◌, eqb}
-use Rattle.shortfall.specs.declared.answer.First.{First}
-use Rattle.shortfall.specs.declared.answer.First.TheVariants.{Never, Slot}
+use Rattle.std.specs.Prelude.{ℕ, cond, List, ◌++◌, eqb, Option, Some, None}
 use Rattle.shortfall.specs.declared.answer.Below.{Below}
 use Rattle.text.specs.Ascii.{ascii}
 use Rattle.text.specs.Decimal.{decimal_of}
 use Rattle.lines.specs.Parts.{labelled}
 
 -- 'never below', or 'below in A of B windows a cycle, first in slot S'
-abbrev pub fall_text : ℕ → ℕ → First → List ℕ
-fall_text short windows Never = ascii " never below\n"
-fall_text short windows (Slot n) =
+abbrev pub fall_text : ℕ → ℕ → Option ℕ → List ℕ
+fall_text short windows None = ascii " never below\n"
+fall_text short windows (Some n) =
     labelled (ascii " below in ") short
     ++ (labelled (ascii " of ") windows ++ (labelled (ascii " windows a cycle, first in slot ") n ++ ascii "\n"))
 

@@ -1,16 +1,13 @@
 -- What a reader may check of the lines: those that document 01 quotes, one of each kind that `below` prints, and that every line fits
--- the buffer. Each statement is proved in proofs/, under its name.
-use Rattle.std.specs.Prelude.{◌≡◌, List, [], ◌∷◌, ℕ, ◌≤◌, length, take, drop}
+-- its room. Each statement is proved in proofs/, under its name.
+use Rattle.std.specs.Prelude.{◌≡◌, List, [], ◌∷◌, ℕ, ◌≤◌, length, Result, Some, None}
 use Rattle.job.specs.declared.refusal.Refusal.{Refusal}
 use Rattle.job.specs.declared.refusal.Refusal.TheVariants.{Period, OriginalModel, CycleTooLong, SheetForm}
 use Rattle.job.specs.Told.{Told, row, told}
-use Rattle.admission.specs.declared.answer.Admission.{Admission}
-use Rattle.admission.specs.Answer.{told_admission}
+use Rattle.admission.specs.Answer.{Admission, told_admission}
 use Rattle.run.specs.declared.answer.Choice.TheVariants.{Given}
-use Rattle.run.specs.declared.answer.StepAnswer.{StepAnswer}
 use Rattle.run.specs.declared.answer.Slot.{Slot}
 use Rattle.run.specs.declared.state.Totals.{Totals}
-use Rattle.shortfall.specs.declared.answer.First.TheVariants.{Never, Slot as FirstIn}
 use Rattle.shortfall.specs.declared.answer.Below.{Below}
 use Rattle.text.specs.Ascii.{ascii}
 use Rattle.lines.specs.Slot.{slot_text}
@@ -50,11 +47,11 @@ LineOfRowThirteen = refusal_text (told (SheetForm 7)) ≡ ascii "refused 13 at 7
 
 -- 'job J never below', and 'job J below in A of B windows a cycle, first in slot S', slot 0 too
 abbrev pub LineOfNever : Type 0
-LineOfNever = below_text 2 (record { windows = 3; short = 0; first = Never }) ≡ ascii "job 2 never below\n"
+LineOfNever = below_text 2 (record { windows = 3; short = 0; first = None }) ≡ ascii "job 2 never below\n"
 
 abbrev pub LineOfBelow : Type 0
 LineOfBelow =
-    below_text 1 (record { windows = 3; short = 2; first = FirstIn 0 })
+    below_text 1 (record { windows = 3; short = 2; first = Some 0 })
     ≡ ascii "job 1 below in 2 of 3 windows a cycle, first in slot 0\n"
 
 -- 'no job falls below', and 'N of M jobs fall below'
@@ -64,7 +61,7 @@ LineOfNoneFallen = fallen_text 0 2 ≡ ascii "no job falls below\n"
 abbrev pub LineOfOneFallen : Type 0
 LineOfOneFallen = fallen_text 1 2 ≡ ascii "1 of 2 jobs fall below\n"
 
--- a buffer of 192 bytes holds any line
+-- the room of a `Line`, 192 bytes, holds any
 abbrev pub EveryLineFits : Type 0
 EveryLineFits =
     ((n : ℕ) (s : Slot) → length (slot_text n s) ≤ 192)
@@ -74,32 +71,24 @@ EveryLineFits =
     × ((job : ℕ) (b : Below) → length (below_text job b) ≤ 192)
     × ((fallen jobs : ℕ) → length (fallen_text fallen jobs) ≤ 192)
 
--- a line in its buffer: the text at the start, and the other bytes as they were
-pub record Line (text before : List ℕ) (r : ℕ) (after : List ℕ) : Type 0 where
-  pub long : r ≡ length text
-  pub text_is : take r after ≡ text
-  pub stays : drop r after ≡ drop r before
+-- a line: its text, which fits
+pub record Line (text line : List ℕ) : Type 0 where
+  pub text_is : line ≡ text
+  pub fits : length line ≤ 192
 
 -- whatever the promises of the seven functions allow is the line of their text
 pub record LinesWritten : Type 0 where
   pub slot :
-      (number : ℕ) (slot : Slot) (before : List ℕ) (r : ℕ) (after : List ℕ) → length before ≡ 192
-      → SlotLinePromise number slot before r after → Line (slot_text number slot) before r after
+      (number : ℕ) (slot : Slot) (line : List ℕ) → SlotLinePromise number slot line → Line (slot_text number slot) line
   pub refusal :
-      (refusal : Refusal) (before : List ℕ) (r : ℕ) (after : List ℕ) → length before ≡ 192
-      → RefusalLinePromise refusal before r after → Line (refusal_text (told refusal)) before r after
+      (refusal : Refusal) (line : List ℕ) → RefusalLinePromise refusal line → Line (refusal_text (told refusal)) line
   pub answer :
-      (number : ℕ) (answer : StepAnswer) (before : List ℕ) (r : ℕ) (after : List ℕ) → length before ≡ 192
-      → AnswerLinePromise number answer before r after → Line (answer_text number answer) before r after
+      (number : ℕ) (answer : Result Slot Refusal) (line : List ℕ) → AnswerLinePromise number answer line
+      → Line (answer_text number answer) line
   pub admission :
-      (answer : Admission) (before : List ℕ) (r : ℕ) (after : List ℕ) → length before ≡ 192
-      → AdmissionLinePromise answer before r after → Line (admission_text (told_admission answer)) before r after
-  pub totals :
-      (totals : Totals) (before : List ℕ) (r : ℕ) (after : List ℕ) → length before ≡ 192
-      → TotalsLinePromise totals before r after → Line (totals_text totals) before r after
-  pub job :
-      (job : ℕ) (below : Below) (before : List ℕ) (r : ℕ) (after : List ℕ) → length before ≡ 192
-      → JobLinePromise job below before r after → Line (below_text job below) before r after
+      (answer : Admission) (line : List ℕ) → AdmissionLinePromise answer line
+      → Line (admission_text (told_admission answer)) line
+  pub totals : (totals : Totals) (line : List ℕ) → TotalsLinePromise totals line → Line (totals_text totals) line
+  pub job : (job : ℕ) (below : Below) (line : List ℕ) → JobLinePromise job below line → Line (below_text job below) line
   pub fallen :
-      (fallen jobs : ℕ) (before : List ℕ) (r : ℕ) (after : List ℕ) → length before ≡ 192
-      → FallenLinePromise fallen jobs before r after → Line (fallen_text fallen jobs) before r after
+      (fallen jobs : ℕ) (line : List ℕ) → FallenLinePromise fallen jobs line → Line (fallen_text fallen jobs) line

@@ -1,15 +1,17 @@
 // What a step answers, as a line: the slot's, or the refusal's.
 ghost use Rattle.lines.specs.Promise.{AnswerLinePromise};
 
+use crate::Line;
 use crate::refused::refusal_line;
 use crate::slot::slot_line;
-use run::StepAnswer;
+use job::Refusal;
+use run::Slot;
 
-pub fn answer_line(buf: &mut [u8; 192], number: u32, answer: StepAnswer) -> usize
-    ensures { AnswerLinePromise number answer buf.old result buf.new }
+pub fn answer_line(number: u32, answer: Result<Slot, Refusal>) -> Line
+    ensures { AnswerLinePromise number answer result }
 {
     match answer {
-        StepAnswer::Done(slot) => slot_line(buf, number, slot),
-        StepAnswer::Refused(refusal) => refusal_line(buf, refusal),
+        Ok(slot) => slot_line(number, slot),
+        Err(refusal) => refusal_line(refusal),
     }
 }

@@ -1,46 +1,50 @@
 // The line of a judged job, and the line after the jobs.
-ghost use Rattle.std.specs.Prelude.{◌≡◌, ◌+◌, ◌≤◌, length};
-ghost use Rattle.text.specs.Written.{written};
+ghost use Rattle.std.specs.Prelude.{◌≡◌, ◌+◌, ◌≤◌, ◌++◌, length};
 ghost use Rattle.lines.specs.Promise.{JobLinePromise, FallenLinePromise};
 ghost use Rattle.lines.specs.Below.{fall_text};
 
+use crate::Line;
 use crate::parts::put_labelled;
-use shortfall::{Below, First};
-use text::inner::{put_decimal, put_text};
+use shortfall::Below;
 
 // 'never below', or 'below in A of B windows a cycle, first in slot S'
-fn put_fall(buf: &mut [u8], at: usize, below: Below) -> usize
-    requires { at + 107 ≤ length buf.old }
-    ensures value { result ≡ at + length (fall_text below.short below.windows below.first) }
-    ensures buf_after { buf.new ≡ written buf.old at (fall_text below.short below.windows below.first) }
+fn put_fall(line: &mut Line, below: Below)
+    requires { length line.old + length (fall_text below.short below.windows below.first) ≤ 192 }
+    ensures { line.new ≡ line.old ++ fall_text below.short below.windows below.first }
 {
-    let first = below.first;
-    match first {
-        First::Never => put_text(buf, at, b" never below\n"),
-        First::Slot(slot) => {
-            let mut end = put_labelled(buf, at, b" below in ", below.short as u64);
-            end = put_labelled(buf, end, b" of ", below.windows as u64);
-            end = put_labelled(buf, end, b" windows a cycle, first in slot ", slot as u64);
-            put_text(buf, end, b"\n")
+    match below.first {
+        None => line.put(b" never below\n"),
+        Some(slot) => {
+            put_labelled(line, b" below in ", u64::from(below.short));
+            put_labelled(line, b" of ", u64::from(below.windows));
+            put_labelled(line, b" windows a cycle, first in slot ", u64::from(slot));
+            line.put(b"\n");
         }
     }
 }
 
-pub fn job_line(buf: &mut [u8; 192], job: usize, below: Below) -> usize
-    ensures { JobLinePromise job below buf.old result buf.new }
+#[tactic(auto, using(crate::proofs::LengthLaws::parts), unfolding(crate::specs::Below::below_text))]
+pub fn job_line(job: usize, below: Below) -> Line
+    ensures { JobLinePromise job below result }
 {
-    let at = put_labelled(buf, 0, b"job ", job as u64);
-    put_fall(buf, at, below)
+    let mut line = Line::new();
+    put_labelled(&mut line, b"job ", job as u64);
+    put_fall(&mut line, below);
+    line
 }
 
 // 'no job falls below', or 'N of M jobs fall below'
-pub fn fallen_line(buf: &mut [u8; 192], fallen: usize, jobs: usize) -> usize
-    ensures { FallenLinePromise fallen jobs buf.old result buf.new }
+#[tactic(auto, using(crate::proofs::LengthLaws::parts), unfolding(crate::specs::Below::fallen_text))]
+pub fn fallen_line(fallen: usize, jobs: usize) -> Line
+    ensures { FallenLinePromise fallen jobs result }
 {
+    let mut line = Line::new();
     if fallen == 0 {
-        return put_text(buf, 0, b"no job falls below\n");
+        line.put(b"no job falls below\n");
+        return line;
     }
-    let mut at = put_decimal(buf, 0, fallen as u64);
-    at = put_labelled(buf, at, b" of ", jobs as u64);
-    put_text(buf, at, b" jobs fall below\n")
+    line.put_decimal(fallen as u64);
+    put_labelled(&mut line, b" of ", jobs as u64);
+    line.put(b" jobs fall below\n");
+    line
 }

@@ -1,5 +1,5 @@
-// The lines that `slots` and `below` print, each written by one function into a lent buffer that
-// any of them fits.
+// The lines that `slots` and `below` print, each given by one function. A line is never an `impl Display`:
+// `fmt` promises its bytes only where it answers Ok, and these functions cannot fail.
 #![tactic(auto)]
 
 mod answer;
@@ -14,3 +14,6 @@ pub use below::{fallen_line, job_line};
 pub use refused::refusal_line;
 pub use slot::slot_line;
 pub use summary::{admission_line, totals_line};
+
+// Room for the longest line.
+pub type Line = text::Text<192>;

@@ -1,52 +1,43 @@
-// Parts of a line. Each asks for room, which the lines' own lengths give.
-ghost use Rattle.std.specs.Prelude.{◌≡◌, ◌+◌, ◌≤◌, length};
+// Parts of a line. Each asks for room, which the lines' own lengths give: no type does, since each part
+// has a length of its own.
+ghost use Rattle.std.specs.Prelude.{◌≡◌, ◌+◌, ◌≤◌, ◌++◌, length};
 ghost use Rattle.job.specs.Limit.{count_most};
-ghost use Rattle.text.specs.Written.{written};
 ghost use Rattle.lines.specs.Slot.{choice_text, set_text};
 ghost use Rattle.lines.specs.Parts.{labelled};
 
+use crate::Line;
 use job::JobList;
 use run::Choice;
-use text::inner::{put_decimal, put_text};
 
 // A label and a number.
-pub(crate) fn put_labelled(buf: &mut [u8], at: usize, label: &[u8], x: u64) -> usize
-    requires { at + length label.now + 20 ≤ length buf.old }
-    ensures value { result ≡ at + length (labelled label.now x) }
-    ensures buf_after { buf.new ≡ written buf.old at (labelled label.now x) }
+pub(crate) fn put_labelled(line: &mut Line, label: &[u8], x: u64)
+    requires { length line.old + length (labelled label.now x) ≤ 192 }
+    ensures { line.new ≡ line.old ++ labelled label.now x }
 {
-    let after = put_text(buf, at, label);
-    put_decimal(buf, after, x)
+    line.put(label);
+    line.put_decimal(x);
 }
 
 // 'job or -'
-pub(crate) fn put_choice(buf: &mut [u8], at: usize, choice: Choice) -> usize
-    requires { at + 20 ≤ length buf.old }
-    ensures value { result ≡ at + length (choice_text choice) }
-    ensures buf_after { buf.new ≡ written buf.old at (choice_text choice) }
+pub(crate) fn put_choice(line: &mut Line, choice: Choice)
+    requires { length line.old + length (choice_text choice) ≤ 192 }
+    ensures { line.new ≡ line.old ++ choice_text choice }
 {
     match choice {
-        Choice::Given(job) => put_decimal(buf, at, job as u64),
-        Choice::Idle => put_text(buf, at, b"-"),
+        Choice::Given(job) => line.put_decimal(job as u64),
+        Choice::Idle => line.put(b"-"),
     }
 }
 
 // Each member of a set, ascending, after its label.
-pub(crate) fn put_set(buf: &mut [u8], at: usize, label: &[u8], set: u16) -> usize
-    requires label_len { length label.now ≡ 2 }
-    requires at_in_bounds { at + 80 ≤ length buf.old }
-    ensures value { result ≡ at + length (set_text label.now set count_most) }
-    ensures buf_after { buf.new ≡ written buf.old at (set_text label.now set count_most) }
+#[tactic(auto, using(crate::proofs::SetLaws::members))]
+pub(crate) fn put_set(line: &mut Line, label: &[u8], set: u16)
+    requires { length line.old + length (set_text label.now set count_most) ≤ 192 }
+    ensures { line.new ≡ line.old ++ set_text label.now set count_most }
 {
-    let mut end = at;
-    let mut rest = set;
-    let mut job: usize = 0;
-    while job < JobList::COUNT_MOST {
-        if rest % 2 == 1 {
-            end = put_labelled(buf, end, label, job as u64);
+    for job in 0..JobList::COUNT_MOST {
+        if (set >> job) % 2 == 1 {
+            put_labelled(line, label, job as u64);
         }
-        rest = rest / 2;
-        job += 1;
     }
-    end
 }

@@ -2,18 +2,20 @@
 // each short window, each after a space, ascending'
 ghost use Rattle.lines.specs.Promise.{SlotLinePromise};
 
+use crate::Line;
 use crate::parts::{put_choice, put_set};
 use run::Slot;
-use text::inner::{put_decimal, put_text};
 
-pub fn slot_line(buf: &mut [u8; 192], number: u32, slot: Slot) -> usize
-    ensures { SlotLinePromise number slot buf.old result buf.new }
+#[tactic(auto, using(crate::proofs::LengthLaws::parts), unfolding(crate::specs::Slot::slot_text))]
+pub fn slot_line(number: u32, slot: Slot) -> Line
+    ensures { SlotLinePromise number slot result }
 {
-    let choice = slot.choice;
-    let mut at = put_decimal(buf, 0, number as u64);
-    at = put_text(buf, at, b" ");
-    at = put_choice(buf, at, choice);
-    at = put_set(buf, at, b" t", slot.tags);
-    at = put_set(buf, at, b" s", slot.shorts);
-    put_text(buf, at, b"\n")
+    let mut line = Line::new();
+    line.put_decimal(u64::from(number));
+    line.put(b" ");
+    put_choice(&mut line, slot.choice);
+    put_set(&mut line, b" t", slot.tags);
+    put_set(&mut line, b" s", slot.shorts);
+    line.put(b"\n");
+    line
 }

@@ -1,43 +1,50 @@
 // The line before the slots, and the line after them.
-ghost use Rattle.std.specs.Prelude.{◌≡◌, ◌+◌, ◌≤◌, length};
-ghost use Rattle.text.specs.Written.{written};
+ghost use Rattle.std.specs.Prelude.{◌≡◌, ◌+◌, ◌≤◌, ◌++◌, length};
+ghost use Rattle.admission.specs.Answer.{told_admission};
 ghost use Rattle.lines.specs.Promise.{AdmissionLinePromise, TotalsLinePromise};
 ghost use Rattle.lines.specs.Summary.{verdict_word};
 
+use crate::Line;
 use crate::parts::put_labelled;
-use admission::Admission;
+use admission::{Admission, amounts};
+use job::Refusal;
 use run::Totals;
-use text::inner::put_text;
 
 // 'the last word replaced by "over", "cycle too long" or "not judged"'
-fn put_word(buf: &mut [u8], at: usize, number: u32) -> usize
-    requires { at + 16 ≤ length buf.old }
-    ensures value { result ≡ at + length (verdict_word number) }
-    ensures buf_after { buf.new ≡ written buf.old at (verdict_word number) }
+fn put_word(line: &mut Line, answer: Admission)
+    requires { length line.old + length (verdict_word (told_admission answer).number) ≤ 192 }
+    ensures { line.new ≡ line.old ++ verdict_word (told_admission answer).number }
 {
-    match number {
-        0 => put_text(buf, at, b" admitted\n"),
-        8 => put_text(buf, at, b" cycle too long\n"),
-        9 => put_text(buf, at, b" over\n"),
-        _ => put_text(buf, at, b" not judged\n"),
+    match answer {
+        Ok(_) => line.put(b" admitted\n"),
+        Err(Refusal::CycleTooLong) => line.put(b" cycle too long\n"),
+        Err(Refusal::Overload { .. }) => line.put(b" over\n"),
+        Err(_) => line.put(b" not judged\n"),
     }
 }
 
-pub fn admission_line(buf: &mut [u8; 192], answer: Admission) -> usize
-    ensures { AdmissionLinePromise answer buf.old result buf.new }
+#[tactic(auto, using(crate::proofs::LengthLaws::parts), unfolding(crate::specs::Summary::admission_text))]
+pub fn admission_line(answer: Admission) -> Line
+    ensures { AdmissionLinePromise answer result }
 {
-    let mut at = put_labelled(buf, 0, b"cycle ", answer.cycle());
-    at = put_labelled(buf, at, b" load ", answer.load());
-    put_word(buf, at, answer.number())
+    let both = amounts(answer);
+    let mut line = Line::new();
+    put_labelled(&mut line, b"cycle ", both.cycle);
+    put_labelled(&mut line, b" load ", both.load);
+    put_word(&mut line, answer);
+    line
 }
 
 // 'Last line: totals.'
-pub fn totals_line(buf: &mut [u8; 192], totals: Totals) -> usize
-    ensures { TotalsLinePromise totals buf.old result buf.new }
+#[tactic(auto, using(crate::proofs::LengthLaws::parts), unfolding(crate::specs::Summary::totals_text))]
+pub fn totals_line(totals: Totals) -> Line
+    ensures { TotalsLinePromise totals result }
 {
-    let mut at = put_labelled(buf, 0, b"given ", totals.given as u64);
-    at = put_labelled(buf, at, b" idle ", totals.idle as u64);
-    at = put_labelled(buf, at, b" tagged ", totals.tags);
-    at = put_labelled(buf, at, b" short ", totals.shorts);
-    put_text(buf, at, b"\n")
+    let mut line = Line::new();
+    put_labelled(&mut line, b"given ", u64::from(totals.given));
+    put_labelled(&mut line, b" idle ", u64::from(totals.idle));
+    put_labelled(&mut line, b" tagged ", totals.tags);
+    put_labelled(&mut line, b" short ", totals.shorts);
+    line.put(b"\n");
+    line
 }

@@ -9,12 +9,13 @@ use lib.Dec.{leb, ltb, eqb}
 use borrow.Author.Tests.{ltb-true, leb-true, eqb-true, lt-ltb, le-leb, eq-eqb}
 use Rattle.job.specs.declared.record.Job.{Job}
 use Rattle.sheet.specs.declared.reading.Sheet.{Sheet}
+use Rattle.sheet.specs.declared.reader.Field.{Field}
+use Rattle.sheet.specs.declared.reader.Field.TheVariants.{Slots, Spare, K}
 use Rattle.sheet.specs.declared.reader.Reader.{Reader}
 use Rattle.sheet.specs.Reader.{SoundReader, letter_field, letter_fits, digit_fits, own_byte, end_byte, spare_next, ends_field, fits_of, value_after, stored_of, advanced_of}
-use Rattle.job.proofs.TestLaws.{refuted, both, either}
-use Rattle.place.proofs.CondLaws.{by_test}
+use Rattle.job.proofs.TestLaws.{clash, refuted, both, either}
 
-abbrev pub reader_at : ℕ → ℕ → ℕ → Job → Sheet → Reader
+abbrev pub reader_at : Field → ℕ → ℕ → Job → Sheet → Reader
 reader_at field digits value job sheet =
     record { field = field; digits = digits; value = value; job = job; sheet = sheet }
 
@@ -84,17 +85,25 @@ module _ (r : Reader) (b : ℕ) where
     number_value = rw number
 
 -- the byte that ends a field is none of its own
-pub usual_ends : (field : ℕ) → ends_field field (end_byte field) ≡ true
+pub usual_ends : (field : Field) → ends_field field (end_byte field) ≡ true
 usual_ends field = rw (eq-eqb (end_byte field) (end_byte field) refl, or-true)
 
-end_low : (field b : ℕ) → ends_field field b ≡ true → b < 48
+spare_low : (field : Field) (b : ℕ) → spare_next field b ≡ true → b < 48
+spare_low Slots b e = omega (arith, eqb-true b 32 e)
+spare_low _ b e = absurd (clash refl e)
+
+usual_low : (field : Field) → end_byte field < 48
+usual_low Slots = omega arith
+usual_low Spare = omega arith
+usual_low K = omega arith
+usual_low _ = omega arith
+
+end_low : (field : Field) (b : ℕ) → ends_field field b ≡ true → b < 48
 end_low field b ends = go (either (spare_next field b) (eqb b (end_byte field)) ends)
   where
     go : (spare_next field b ≡ true) ⊎ (eqb b (end_byte field) ≡ true) → b < 48
-    go (inl spare) = omega (arith, eqb-true b 32 (both (eqb field 2) (eqb b 32) spare).1)
-    go (inr usual) =
-        rw (eqb-true b (end_byte field) usual)
-        (by_test (λ (e : ℕ). e < 48) (eqb field 2 || ltb 5 field) (λ e. omega arith) (λ e. omega arith))
+    go (inl spare) = spare_low field b spare
+    go (inr usual) = omega (arith, eqb-true b (end_byte field) usual, usual_low field)
 
 end_not_own : (r : Reader) (b : ℕ) → 0 < r.digits → ends_field r.field b ≡ true → own_byte r b ≡ false
 end_not_own r b some ends = refuted (never (letter_field r.field) refl)

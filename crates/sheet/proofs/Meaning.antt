@@ -7,11 +7,12 @@ use Prim.Native.Nat.{ℕ, suc, ◌+◌, ◌≤◌, ◌<◌}
 use native.Mathlib.Numerals.{add-one}
 use native.Mathlib.Decide.{dec_lt}
 use native.Mathlib.Omega.{arith}
-use lib.Dec.{eqb}
 use lib.ListN.{length, take, get_or}
 use borrow.Author.Tests.{eq-eqb, ne_eqb, lt-ltb, le-ltb}
 use Rattle.job.specs.declared.record.Job.{Job}
 use Rattle.job.specs.declared.list.JobList.{JobList}
+use Rattle.std.specs.Prelude.{Result}
+use Rattle.job.specs.declared.refusal.Refusal.{Refusal}
 use Rattle.job.specs.Limit.{count_most}
 use Rattle.job.specs.Told.{Told, row, passed}
 use Rattle.job.specs.Check.{list_told}
@@ -25,10 +26,11 @@ use Rattle.sheet.specs.Form.{bytes_most, slots_most, SheetOf, IsSheet, Begins, f
 use Rattle.sheet.specs.Sheet.{blank_sheet, sheet_told}
 use Rattle.sheet.specs.Reader.{place_upto, sheet_of}
 use Rattle.sheet.specs.Answer.{read_told, read_sheet}
+use Rattle.sheet.specs.Promise.{ReadPromise}
 use Rattle.sheet.specs.Meaning.{StopsAt, Formed, Listed, ReadAnswer, passes, row_one, row_two, job_row, row_thirteen, row_sixteen, row_seventeen, Returned, AllZeros, BlankZeros, ReadTold, ReadsExactly}
 use Rattle.sheet.proofs.PushedLaws.{pushed_all, all_kept, pushed_told}
 use Rattle.sheet.proofs.UptoLaws.{fits_begins, begins_fits, last_sheet, form_fits, fits_sheet, sheet_fits, formed_fits, Stop, place_stop, place_is}
-use Rattle.sheet.proofs.ReadLaws.{read_long, read_formed, read_formless, passed_sheet}
+use Rattle.sheet.proofs.ReadLaws.{read_long, read_formed, read_formless, reads_ok, reads_err}
 use Rattle.sheet.proofs.FormLaws.{values_determined}
 
 -- the place
@@ -247,7 +249,7 @@ values_read bytes s slots jobs is e =
     let same = (values_determined bytes s f.sheet.setting slots f.sheet.slots jobs f.sheet.jobs is f.sheet.is).2 in
     let few : length jobs ≤ count_most = rw same f.fact.1.count.high in
     let kept = all_kept jobs few in
-    subst (λ (sheet : Sheet). Returned sheet s slots jobs) (sym (last_sheet bytes is) ∙ passed_sheet bytes e)
+    subst (λ (sheet : Sheet). Returned sheet s slots jobs) (sym (last_sheet bytes is))
     (record {
       setting_is = refl;
       slots_is = refl;
@@ -258,25 +260,12 @@ values_read bytes s slots jobs is e =
 blank_is_zeros : AllZeros blank_sheet
 blank_is_zeros = record { order = refl; model = refl; spare = refl; slots = refl; count = refl; jobs = refl }
 
-refuses : {t : Told} → ReadAnswer t → ¬ (t ≡ passed) → eqb t.number 0 ≡ false
-refuses passes never = absurd (never refl)
-refuses row_one never = refl
-refuses row_two never = refl
-refuses (job_row n i low high) never = ne_eqb n 0 (omega arith)
-refuses (row_thirteen place) never = refl
-refuses row_sixteen never = refl
-refuses row_seventeen never = refl
-
-refused_blank : (bytes : List ℕ) → ¬ (read_told bytes ≡ passed) → AllZeros (read_sheet bytes)
-unfolding read_sheet
-refused_blank bytes never = rw (refuses (no_other_row bytes) never) blank_is_zeros
-
 -- the statements, of whatever result the promises allow
 pub blank_zeros : BlankZeros
 blank_zeros r promise = subst AllZeros (sym promise) blank_is_zeros
 
-read_told_lem : (bytes : List ℕ) → ReadTold bytes (read_told bytes) (read_sheet bytes)
-read_told_lem bytes =
+read_told_lem : (bytes : List ℕ) (r : Result Sheet Refusal) → ReadPromise bytes r → ReadTold bytes (read_told bytes) r
+read_told_lem bytes r promise =
     record {
       seventeen = row_seventeen_exactly bytes;
       thirteen = row_thirteen_exactly bytes;
@@ -286,9 +275,9 @@ read_told_lem bytes =
       of_job = job_rows_exactly bytes;
       passing = read_passes_exactly bytes;
       no_other = no_other_row bytes;
-      values = values_read bytes;
-      refused = refused_blank bytes;
+      values = λ s slots jobs is e. (read_sheet bytes, (reads_ok bytes r promise e, values_read bytes s slots jobs is e));
+      refused = reads_err bytes r promise;
     }
 
 pub reads_exactly : ReadsExactly
-reads_exactly bytes r promise = rw (promise.0, promise.1) (read_told_lem bytes)
+reads_exactly bytes r promise = rw promise.0 (read_told_lem bytes r promise)

@@ -2,7 +2,7 @@
 -- answers it as it answers the jobs themselves.
 use mathlib.Core.Path.{◌≡◌, refl, sym, ◌∙◌, ap}
 use mathlib.Core.List.{List, [], ◌∷◌, ◌++◌, append-nil}
-use Prim.Native.Nat.{ℕ, zero, suc, ◌+◌, ◌-◌, ◌≤◌, ◌<◌}
+use Prim.Native.Nat.{ℕ, zero, suc, ◌+◌, ◌-◌, ◌≤◌, ◌<◌, min}
 use native.Mathlib.Nat.{sub-zero, suc-sub-suc}
 use native.Mathlib.Decide.{dec_lt}
 use native.Mathlib.Omega.{arith}
@@ -17,7 +17,7 @@ use Rattle.job.specs.Filled.{empty_list}
 use Rattle.job.proofs.Meaning.{row_two_exactly}
 use Rattle.job.proofs.AlikeLaws.{list_alike}
 use Rattle.sheet.specs.Form.{form_list}
-use Rattle.sheet.specs.Reader.{pushed_of}
+use Rattle.sheet.specs.Reader.{counted_most, pushed_of}
 
 unfoldable pub pushed_all : JobList → List Job → JobList
 pushed_all l [] = l
@@ -28,13 +28,13 @@ unfoldable pub last_job : Job → List Job → Job
 last_job job [] = job
 last_job job (j ∷ jobs) = last_job j jobs
 
-all_count : (l : JobList) (jobs : List Job) → (pushed_all l jobs).count ≡ l.count + length jobs
+all_many : (l : JobList) (jobs : List Job) → count_most < l.count + length jobs → count_most < (pushed_all l jobs).count
 unfolding pushed_all pushed_of
-all_count l [] = omega arith
-all_count l (j ∷ jobs) = omega (arith, all_count (pushed_of l j) jobs)
+all_many l [] many = omega arith
+all_many l (j ∷ jobs) many = all_many (pushed_of l j) jobs (omega arith)
 
 -- jobs from the first record on, and n records of zeros behind them
-abbrev padded : List Job → ℕ → JobList
+abbrev pub padded : List Job → ℕ → JobList
 padded jobs n = record { jobs = jobs ++ replicate n no_job; count = length jobs }
 
 pushed_padded :
@@ -43,8 +43,8 @@ pushed_padded :
 unfolding pushed_of
 pushed_padded before j n room =
     let stored = set-append_seam before no_job (replicate n no_job) j ∙ sym (append_snoc before j (replicate n no_job)) in
-    rw (lt-ltb (length before) count_most room)
-    (λ i. record { jobs = stored i; count = sym (length-append before (j ∷ [])) i })
+    let counted : min (length before + 1) counted_most ≡ length (before ++ (j ∷ [])) = omega (arith, length-append before (j ∷ [])) in
+    rw (lt-ltb (length before) count_most room) (λ i. record { jobs = stored i; count = counted i })
 
 all_padded :
     (before jobs : List Job) (n : ℕ) → length before + n ≡ count_most → length jobs ≤ n
@@ -69,6 +69,6 @@ pushed_told jobs = go (dec_lt count_most (length jobs))
   where
     go : Dec (count_most < length jobs) → list_told (pushed_all (empty_list 0) jobs) ≡ list_told (form_list jobs)
     go (yes many) =
-        (row_two_exactly (pushed_all (empty_list 0) jobs)).1 (omega (arith, all_count (empty_list 0) jobs))
+        (row_two_exactly (pushed_all (empty_list 0) jobs)).1 (all_many (empty_list 0) jobs (omega arith))
         ∙ sym ((row_two_exactly (form_list jobs)).1 many)
     go (no few) = ap list_told (all_kept jobs (omega arith)) ∙ rest_told jobs (replicate (count_most - length jobs) no_job)

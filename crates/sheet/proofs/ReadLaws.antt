@@ -1,5 +1,5 @@
--- How a read is told: by its length, by its form, and by what the sheet holds; and what stands beside it.
-use mathlib.Core.Path.{◌≡◌, sym, ◌∙◌, ap}
+-- How a read is told: by its length, by its form, and by what the sheet holds; and the result that tells so.
+use mathlib.Core.Path.{◌≡◌, refl, sym, ◌∙◌, ap}
 use mathlib.Core.Bool.{true, false}
 use mathlib.Core.List.{List, [], ◌∷◌}
 use Prim.Native.Nat.{ℕ, ◌≤◌, ◌<◌}
@@ -7,15 +7,14 @@ use lib.Dec.{eqb}
 use lib.ListN.{length}
 use borrow.Author.Tests.{lt-ltb, le-ltb}
 use Rattle.job.specs.declared.refusal.Refusal.{Refusal}
-use Rattle.job.specs.declared.refusal.Checked.{Checked}
-use Rattle.job.specs.declared.refusal.Checked.TheVariants.{Refused}
-use Rattle.job.specs.Told.{Told, row, passed, told, told_checked}
+use Rattle.std.specs.Prelude.{Result, Ok, Err}
+use Rattle.job.specs.Told.{Told, row, passed, told}
 use Rattle.job.specs.Check.{otherwise}
-use Rattle.job.proofs.ToldLaws.{told_refuses}
+use Rattle.job.proofs.ToldLaws.{refusal_one_to_one, not_passed}
 use Rattle.job.proofs.CheckLaws.{otherwise_passed, otherwise_refused}
 use Rattle.sheet.specs.declared.reading.Sheet.{Sheet}
 use Rattle.sheet.specs.Form.{bytes_most}
-use Rattle.sheet.specs.Sheet.{blank_sheet, sheet_told}
+use Rattle.sheet.specs.Sheet.{sheet_told}
 use Rattle.sheet.specs.Reader.{place_upto}
 use Rattle.sheet.specs.Answer.{last_reader, form_told, read_told, read_sheet}
 use Rattle.sheet.specs.Promise.{ReadPromise}
@@ -51,15 +50,21 @@ module _ (bytes : List ℕ) where
         ∙ otherwise_refused (form_told bytes) (sheet_told (last_reader bytes).sheet) (ap (λ (t : Told). eqb t.number 0) refused)
         ∙ refused
 
-  -- an answer and the sheet beside it
-  pub refused_answers :
-      {answer : Checked} {sheet : Sheet} (refusal : Refusal) → (answer ≡ Refused refusal) × (sheet ≡ blank_sheet)
-      → read_told bytes ≡ told refusal → ReadPromise bytes (record { answer = answer; sheet = sheet })
-  unfolding read_sheet
-  refused_answers refusal is e =
-      let number = ap (λ (t : Told). eqb t.number 0) e ∙ told_refuses refusal in
-      (ap told_checked is.0 ∙ sym e, is.1 ∙ rw number)
+  -- a result, by what is told
+  pub refusal_reads : (refusal : Refusal) → read_told bytes ≡ told refusal → ReadPromise bytes (Err refusal)
+  refusal_reads refusal e = (sym e, tt)
 
-  pub passed_sheet : read_told bytes ≡ passed → (last_reader bytes).sheet ≡ read_sheet bytes
-  unfolding read_sheet
-  passed_sheet e = rw e
+  pub reads_ok : (r : Result Sheet Refusal) → ReadPromise bytes r → read_told bytes ≡ passed → r ≡ Ok (read_sheet bytes)
+  reads_ok (Ok sheet) promise e = ap Ok promise.1
+  reads_ok (Err refusal) promise e = absurd (not_passed refusal (promise.0 ∙ e))
+
+  pub reads_err : (r : Result Sheet Refusal) → ReadPromise bytes r → ¬ (read_told bytes ≡ passed) → (refusal : Refusal) × (r ≡ Err refusal)
+  reads_err (Ok sheet) promise never = absurd (never (sym promise.0))
+  reads_err (Err refusal) promise never = (refusal, refl)
+
+  -- the promise allows one result
+  pub read_unique : (a b : Result Sheet Refusal) → ReadPromise bytes a → ReadPromise bytes b → a ≡ b
+  read_unique (Ok s) (Ok s') promise promise' = ap Ok (promise.1 ∙ sym promise'.1)
+  read_unique (Ok s) (Err r) promise promise' = absurd (not_passed r (promise'.0 ∙ sym promise.0))
+  read_unique (Err r) (Ok s) promise promise' = absurd (not_passed r (promise.0 ∙ sym promise'.0))
+  read_unique (Err r) (Err r') promise promise' = ap Err (refusal_one_to_one r r' (promise.0 ∙ sym promise'.0))

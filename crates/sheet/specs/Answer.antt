@@ -1,11 +1,11 @@
 -- 'Tests 17, 13, 16, 1 to 6.'
-use Rattle.std.specs.Prelude.{ℕ, ◌&&◌, cond, List, [], ◌∷◌, ltb, eqb, length}
+use Rattle.std.specs.Prelude.{ℕ, ◌&&◌, cond, List, [], ◌∷◌, ltb, length}
 use Rattle.job.specs.Told.{Told, row, passed}
 use Rattle.job.specs.Check.{otherwise}
 use Rattle.sheet.specs.declared.reading.Sheet.{Sheet}
 use Rattle.sheet.specs.declared.reader.Reader.{Reader}
 use Rattle.sheet.specs.Form.{bytes_most}
-use Rattle.sheet.specs.Sheet.{blank_sheet, sheet_told}
+use Rattle.sheet.specs.Sheet.{sheet_told}
 use Rattle.sheet.specs.Reader.{between_lines, reader_upto, fits_upto, place_upto}
 
 -- the reader at the end of the bytes
@@ -24,6 +24,6 @@ read_told bytes =
     cond (ltb bytes_most (length bytes)) (row 17 [])
     (otherwise (form_told bytes) (sheet_told (last_reader bytes).sheet))
 
--- the sheet of all zeros stands beside a refusal
-unfoldable pub read_sheet : List ℕ → Sheet
-read_sheet bytes = cond (eqb (read_told bytes).number 0) (last_reader bytes).sheet blank_sheet
+-- the sheet that is handed back where nothing is refused
+abbrev pub read_sheet : List ℕ → Sheet
+read_sheet bytes = (last_reader bytes).sheet

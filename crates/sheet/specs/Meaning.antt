@@ -1,8 +1,9 @@
 -- What a reader may conclude from a read and from a blank sheet: each statement is of whatever result the promise allows, and is proved in proofs/,
 -- under its name. Facts are of the bytes and of the values whose text they are (specs/Form): no reader is mentioned.
-use Rattle.std.specs.Prelude.{ℕ, ◌+◌, ◌-◌, ◌≤◌, ◌<◌, ◌≡◌, true, false, ◌↔◌, ◌⊎◌, List, [], ◌∷◌, ◌++◌, length, take, replicate}
+use Rattle.std.specs.Prelude.{ℕ, ◌+◌, ◌-◌, ◌≤◌, ◌<◌, ◌≡◌, true, false, ◌↔◌, ◌⊎◌, List, [], ◌∷◌, ◌++◌, length, take, replicate, Result, Ok, Err}
 use Rattle.job.specs.declared.record.Job.{Job}
 use Rattle.job.specs.declared.list.JobList.{JobList}
+use Rattle.job.specs.declared.refusal.Refusal.{Refusal}
 use Rattle.job.specs.Limit.{count_most}
 use Rattle.job.specs.Told.{Told, row, passed, told_checked}
 use Rattle.job.specs.Sound.{Within, SoundList, LowestFault}
@@ -10,7 +11,6 @@ use Rattle.text.specs.Ascii.{ascii}
 use Rattle.place.specs.declared.setting.Setting.{Setting}
 use Rattle.place.specs.Setting.{setting_of, with_spare}
 use Rattle.sheet.specs.declared.reading.Sheet.{Sheet}
-use Rattle.sheet.specs.declared.reading.ReadSheet.{ReadSheet}
 use Rattle.sheet.specs.Form.{bytes_most, slots_most, SheetOf, IsSheet, Begins, form_list}
 use Rattle.sheet.specs.Promise.{BlankPromise, ReadPromise}
 
@@ -43,14 +43,18 @@ pub data ReadAnswer : Told → Type 0 where
 abbrev pub job : ℕ → ℕ → ℕ → ℕ → Job
 job c t m k = record { c = c; t = t; m = m; k = k }
 
--- the sheet returned holds the values: the jobs from the first record on, and zeros behind them
+-- a sheet holds the values: the jobs from the first record on, and zeros behind them
 pub record Returned (sheet : Sheet) (s : Setting) (slots : ℕ) (jobs : List Job) : Type 0 where
   pub setting_is : sheet.setting ≡ s
   pub slots_is : sheet.slots ≡ slots
   pub count_is : sheet.list.count ≡ length jobs
   pub jobs_are : sheet.list.jobs ≡ jobs ++ replicate (count_most - length jobs) (job 0 0 0 0)
 
--- the sheet of all zeros, which `Sheet::blank` gives and which stands beside a refusal
+-- a sheet is returned, and holds the values
+abbrev pub Reads : Result Sheet Refusal → Setting → ℕ → List Job → Type 0
+Reads r s slots jobs = (sheet : Sheet) × ((r ≡ Ok sheet) × Returned sheet s slots jobs)
+
+-- the sheet of all zeros, which `Sheet::blank` gives
 pub record AllZeros (sheet : Sheet) : Type 0 where
   pub order : sheet.setting.order ≡ 0
   pub model : sheet.setting.model ≡ 0
@@ -62,8 +66,8 @@ pub record AllZeros (sheet : Sheet) : Type 0 where
 abbrev pub BlankZeros : Type 0
 BlankZeros = (r : Sheet) → BlankPromise r → AllZeros r
 
--- what is told of the bytes, and the sheet beside it. 'Tests 17, 13, 16, 1 to 6.'
-pub record ReadTold (bytes : List ℕ) (told : Told) (sheet : Sheet) : Type 0 where
+-- what is told of the bytes, and the sheet that is returned or not. 'Tests 17, 13, 16, 1 to 6.'
+pub record ReadTold (bytes : List ℕ) (told : Told) (r : Result Sheet Refusal) : Type 0 where
   -- '17: sheet over 4,096 bytes'
   pub seventeen : (told ≡ row 17 []) ↔ (bytes_most < length bytes)
   -- '13: sheet not of the stated form'
@@ -79,18 +83,17 @@ pub record ReadTold (bytes : List ℕ) (told : Told) (sheet : Sheet) : Type 0 wh
   -- few enough bytes, of the form, and every number in them within its row of the table
   pub passing : (told ≡ passed) ↔ Listed bytes SoundList
   pub no_other : ReadAnswer told
-  pub values : (s : Setting) (slots : ℕ) (jobs : List Job) → SheetOf bytes s slots jobs → told ≡ passed → Returned sheet s slots jobs
-  pub refused : ¬ (told ≡ passed) → AllZeros sheet
+  pub values : (s : Setting) (slots : ℕ) (jobs : List Job) → SheetOf bytes s slots jobs → told ≡ passed → Reads r s slots jobs
+  -- no sheet stands beside a refusal
+  pub refused : ¬ (told ≡ passed) → (refusal : Refusal) × (r ≡ Err refusal)
 
 abbrev pub ReadsExactly : Type 0
-ReadsExactly = (bytes : List ℕ) (r : ReadSheet) → ReadPromise bytes r → ReadTold bytes (told_checked r.answer) r.sheet
+ReadsExactly = (bytes : List ℕ) (r : Result Sheet Refusal) → ReadPromise bytes r → ReadTold bytes (told_checked r) r
 
 -- document 01's own sheets, which hold specs/Form itself to the letter: case A's 'input lines `W R 6`, `1 2 1 2`, `1 3 2 2`'; B, 'same, V R';
 -- D, 'W O'. 'Order 0 is V, 1 is W; model 0 is relaxed, 1 is original.' And case A with document 02's 'optional S'.
 abbrev pub ReadsAs : List ℕ → Setting → ℕ → List Job → Type 0
-ReadsAs bytes s slots jobs =
-    (r : ReadSheet) → ReadPromise bytes r
-    → (told_checked r.answer ≡ passed) × Returned r.sheet s slots jobs
+ReadsAs bytes s slots jobs = (r : Result Sheet Refusal) → ReadPromise bytes r → Reads r s slots jobs
 
 abbrev pub CasesRead : Type 0
 CasesRead =
@@ -102,7 +105,7 @@ CasesRead =
 -- row 13's places about the S: a sheet that 'ends too soon' behind the space; a T there, and an S with no space before it, 'after which no sheet
 -- can continue'
 abbrev pub StopsReadAt : List ℕ → ℕ → Type 0
-StopsReadAt bytes place = (r : ReadSheet) → ReadPromise bytes r → told_checked r.answer ≡ row 13 (place ∷ [])
+StopsReadAt bytes place = (r : Result Sheet Refusal) → ReadPromise bytes r → told_checked r ≡ row 13 (place ∷ [])
 
 abbrev pub SpareStops : Type 0
 SpareStops = StopsReadAt (ascii "W R 6 ") 6 × StopsReadAt (ascii "W R 6 T") 6 × StopsReadAt (ascii "W R 6S") 5

@@ -4,4 +4,4 @@
 mod reader;
 mod reading;
 
-pub use reading::{ReadSheet, Sheet, read};
+pub use reading::{Sheet, read};

@@ -28,17 +28,17 @@ bytes_more [] b = refl
 bytes_more (x ∷ a) b = ap (λ (r : List ℕ). byte_of x.choice ∷ r) (bytes_more a b)
 
 pub write_follows : WriteFollows
-write_follows l setting jobs allowed slots state run before offset n r after promise passes =
-    let wrote : WritesSteps state before offset n r.state after = (write_answers state before offset n r after promise).writes passes in
-    let whole : Run l setting (slots ++ wrote.slots) r.state =
+write_follows l setting jobs allowed slots state run before offset n r next after promise passes =
+    let wrote : WritesSteps state before offset n next after = (write_answers state before offset n r next after promise).writes passes in
+    let whole : Run l setting (slots ++ wrote.slots) next =
     record { started = run.started; promise = run.promise; passes = run.passes; steps = steps_more run.steps wrote.steps } in
-    let told : RunTold l setting (slots ++ wrote.slots) r.state = run_follows l setting jobs allowed (slots ++ wrote.slots) r.state whole in
+    let told : RunTold l setting (slots ++ wrote.slots) next = run_follows l setting jobs allowed (slots ++ wrote.slots) next whole in
     let bytes : bytes_of (slots ++ wrote.slots) ≡ bytes_of slots ++ part after offset n =
     bytes_more slots wrote.slots ∙ ap (bytes_of slots ++◌) (sym wrote.choices) in
     record {
       long = ap length wrote.choices ∙ bytes_long wrote.slots ∙ wrote.long;
       follows = subst (Follows l setting) bytes told.follows;
-      state_is = subst (λ (x : List ℕ). StateTold l setting x r.state) bytes told.state_is;
+      state_is = subst (λ (x : List ℕ). StateTold l setting x next) bytes told.state_is;
     }
 
 pub fill_follows : FillFollows

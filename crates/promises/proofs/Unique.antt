@@ -1,20 +1,24 @@
 -- Each public operation's promise allows one result: by one law for equations, and that `told` is one-to-one.
-use mathlib.Core.Path.{◌≡◌, sym, ◌∙◌}
-use mathlib.Core.List.{List}
-use Prim.Native.Nat.{ℕ}
-use Rattle.job.specs.Told.{told, told_checked}
-use Rattle.job.proofs.ToldLaws.{checked_one_to_one}
+use mathlib.Core.Path.{◌≡◌, sym, ap, ◌∙◌}
+use Prim.Native.Nat.{ℕ, min, ◌<◌}
+use native.Mathlib.Decide.{dec_lt}
+use native.Mathlib.Omega.{arith}
+use Rattle.std.specs.Prelude.{Result, Ok, Err, IfOk}
+use Rattle.std.proofs.lemmas.List.{ext_get_or}
+use Rattle.job.specs.declared.record.Job.{Job}
+use Rattle.job.specs.declared.refusal.Refusal.{Refusal}
+use Rattle.job.specs.Limit.{count_most}
+use Rattle.job.specs.Check.{no_job, job_at}
+use Rattle.job.specs.Promise.{ListByPromise}
+use Rattle.job.specs.Told.{Told, told_checked}
+use Rattle.job.proofs.ToldLaws.{checked_one_to_one, refusal_one_to_one, not_passed}
 use Rattle.admission.specs.Answer.{told_admission}
 use Rattle.admission.proofs.AnswerLaws.{admission_one_to_one}
 use Rattle.admission.proofs.DivisorLaws.{divisor_unique}
 use Rattle.run.proofs.AnswerLaws.{step_one_to_one}
-use Rattle.lines.specs.Slot.{slot_text}
-use Rattle.lines.specs.Summary.{admission_text, totals_text}
-use Rattle.lines.specs.Refused.{refusal_text}
-use Rattle.lines.specs.Answer.{answer_text}
-use Rattle.lines.specs.Below.{below_text, fallen_text}
-use Rattle.lines.specs.Promise.{LinePromise}
-use Rattle.promises.specs.Unique.{Unique, BothUnique, JobUnique, AdmissionUnique, RunUnique, BytesUnique}
+use Rattle.shortfall.specs.Shortfall.{cycle_judged}
+use Rattle.sheet.proofs.ReadLaws.{read_unique}
+use Rattle.promises.specs.Unique.{Unique, JobUnique, AdmissionUnique, RunUnique, BytesUnique}
 
 -- a result fixed by an equation
 fixed : {A : Type 0} (x : A) → Unique (λ (r : A). r ≡ x)
@@ -25,21 +29,42 @@ told_fixed :
     {A B : Type 0} (f : A → B) → ((a b : A) → f a ≡ f b → a ≡ b) → (x : B) → Unique (λ (r : A). f r ≡ x)
 told_fixed f injective x a b e g = injective a b (e ∙ sym g)
 
+-- an answer that hands back what was handed in, or a refusal
+checked_fixed : {A : Type 0} (x : A) (t : Told) → Unique (λ (r : Result A Refusal). (told_checked r ≡ t) × IfOk r (λ c. c ≡ x))
+checked_fixed x t (Ok a) (Ok b) e f = ap Ok (e.1 ∙ sym f.1)
+checked_fixed x t (Ok a) (Err s) e f = absurd (not_passed s (f.0 ∙ sym e.0))
+checked_fixed x t (Err r) (Ok b) e f = absurd (not_passed r (e.0 ∙ sym f.0))
+checked_fixed x t (Err r) (Err s) e f = ap Err (refusal_one_to_one r s (e.0 ∙ sym f.0))
+
+-- two lists by calls
+module _ (answers : ℕ → Job → Type 0) (one : (at : ℕ) → Unique (answers at)) (count : ℕ) where
+  lists_alike : Unique (ListByPromise answers count)
+  lists_alike a b e f i = record { jobs = same i; count = (e.0 ∙ sym f.0) i }
+    where
+      each : (at : ℕ) → Dec (at < min count count_most) → job_at a.jobs at ≡ job_at b.jobs at
+      each at (yes h) = one at _ _ (e.1.put at h) (f.1.put at h)
+      each at (no h) = e.1.past at (omega arith) ∙ sym (f.1.past at (omega arith))
+
+      same : a.jobs ≡ b.jobs
+      same = ext_get_or no_job _ _ (e.1.long ∙ sym f.1.long) (λ at _. each at (dec_lt at (min count count_most)))
+
 pub job_unique : JobUnique
 job_unique =
     record {
+      of = λ c t m k a b e f i. record { c = (e.slots ∙ sym f.slots) i; t = (e.period ∙ sym f.period) i; m = (e.instances ∙ sym f.instances) i; k = (e.periods ∙ sym f.periods) i };
       none = fixed _;
-      check = λ at j. told_fixed told_checked checked_one_to_one _;
+      check = λ at j. checked_fixed j _;
       empty = λ count. fixed _;
-      list_check = λ l. told_fixed told_checked checked_one_to_one _;
-      checked_number = λ c. fixed _;
+      list_by = λ answers one count a b e f. lists_alike answers one count a b e f;
+      list_of = λ jobs. fixed _;
+      list_check = λ l. checked_fixed l _;
+      answer_number = λ A a. fixed _;
       refusal_number = λ r. fixed _;
     }
 
 pub admission_unique : AdmissionUnique
 admission_unique =
     record {
-      number = λ a. fixed _;
       cycle = λ a. fixed _;
       load = λ a. fixed _;
       divisor = divisor_unique;
@@ -64,52 +89,31 @@ run_unique =
             answer = checked_one_to_one a.answer b.answer (e.0 ∙ sym f.0) i;
             state = (e.1 ∙ sym f.1) i;
           };
-      step =
-          λ s a b e f i.
-          record {
-            answer = step_one_to_one a.answer b.answer (e.0 ∙ sym f.0) i;
-            state = (e.1 ∙ sym f.1) i;
-          };
-      shortfall =
-          λ l s a b e f i.
-          record {
-            answer = checked_one_to_one a.answer b.answer (e.0 ∙ sym f.0) i;
-            fallen = (e.1 ∙ sym f.1) i;
-            jobs = (e.2 ∙ sym f.2) i;
-          };
+      step = λ s a b x y e f. (step_one_to_one a b (e.0 ∙ sym f.0), e.1 ∙ sym f.1);
+      shortfall = λ l s. checked_fixed (cycle_judged l s) _;
     }
-
-line_unique : (text before : List ℕ) → BothUnique (LinePromise text before)
-line_unique text before a b x y e f = (e.0 ∙ sym f.0, e.1 ∙ sym f.1)
 
 pub bytes_unique : BytesUnique
 bytes_unique =
     record {
       write =
           λ s before offset n a b x y e f. (
-            λ i. record {
-              answer = checked_one_to_one a.answer b.answer (e.0 ∙ sym f.0) i;
-              state = (e.1 ∙ sym f.1) i;
-            },
-            e.2 ∙ sym f.2,
+            checked_one_to_one a b (e.0 ∙ sym f.0),
+            λ i. ((e.1 ∙ sym f.1) i, (e.2 ∙ sym f.2) i),
           );
       admit_entry = λ jobs model. fixed _;
-      fill = λ jobs setting before offset n a b x y e f. (e.0 ∙ sym f.0, e.1 ∙ sym f.1);
+      fill = λ jobs setting before offset n a b x y e f. (checked_one_to_one a b (e.0 ∙ sym f.0), e.1 ∙ sym f.1);
+      fill_number = λ jobs setting before offset n a b x y e f. (e.0 ∙ sym f.0, e.1 ∙ sym f.1);
       fill_entry = λ jobs order model before offset n a b x y e f. (e.0 ∙ sym f.0, e.1 ∙ sym f.1);
-      below = λ jobs setting before a b x y e f. (e.0 ∙ sym f.0, e.1 ∙ sym f.1);
+      below = λ jobs setting before a b x y e f. (checked_one_to_one a b (e.0 ∙ sym f.0), e.1 ∙ sym f.1);
       below_entry = λ jobs order model spare before a b x y e f. (e.0 ∙ sym f.0, e.1 ∙ sym f.1);
       blank_sheet_lem = fixed _;
-      read =
-          λ bytes a b e f i.
-          record {
-            answer = checked_one_to_one a.answer b.answer (e.0 ∙ sym f.0) i;
-            sheet = (e.1 ∙ sym f.1) i;
-          };
-      slot_line = λ number slot before. line_unique (slot_text number slot) before;
-      refusal_line = λ r before. line_unique (refusal_text (told r)) before;
-      answer_line = λ number a before. line_unique (answer_text number a) before;
-      admission_line = λ a before. line_unique (admission_text (told_admission a)) before;
-      totals_line = λ t before. line_unique (totals_text t) before;
-      job_line_lem = λ job below before. line_unique (below_text job below) before;
-      fallen_line = λ fallen jobs before. line_unique (fallen_text fallen jobs) before;
+      read = read_unique;
+      slot_line = λ number slot. fixed _;
+      refusal_line = λ r. fixed _;
+      answer_line = λ number a. fixed _;
+      admission_line = λ a. fixed _;
+      totals_line = λ t. fixed _;
+      job_line_lem = λ job below. fixed _;
+      fallen_line = λ fallen jobs. fixed _;
     }

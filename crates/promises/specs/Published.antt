@@ -4,7 +4,7 @@
 use Rattle.std.specs.Prelude.{ℕ, ◌≤◌, ◌<◌, ◌≡◌, Bool, List, [], ◌∷◌, length, get_or}
 use Rattle.job.specs.declared.record.Job.{Job}
 use Rattle.job.specs.Limit.{relaxed}
-use Rattle.admission.specs.declared.answer.Admission.TheVariants.{Admitted}
+use Rattle.admission.specs.Answer.{admitted_of}
 use Rattle.admission.specs.Promise.{VerdictPromise}
 use Rattle.place.specs.declared.setting.Setting.{Setting}
 use Rattle.run.specs.declared.state.State.{State}
@@ -45,7 +45,7 @@ late_slot = 9
 -- of whatever `verdict`, `start` and `step` answer by their promises; there are such runs up to the clock's limit (`RunExists` of rules)
 pub record Refutes (jobs : List Job) : Type 0 where
   -- the load is at most the cycle, as Theorem 3 asks
-  pub admitted : VerdictPromise (listed jobs) relaxed (Admitted 40 39)
+  pub admitted : VerdictPromise (listed jobs) relaxed (admitted_of 40 39)
   -- in order V, in either model, spare on or off, some window ends short in that slot
   pub short_in_v :
       (model : ℕ) → model ≤ 1 → (spare : Bool) (slots : List Slot) (state : State) → Run (listed jobs) (virtual_order model spare) slots state

@@ -46,6 +46,7 @@ impl Sheet {
     }
 }
 
+// No `TryFrom`: its promise would have no name.
 pub fn read(bytes: &[u8]) -> Result<Sheet, Refusal>
     ensures { ReadPromise bytes.now result }
 {

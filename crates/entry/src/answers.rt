@@ -22,8 +22,8 @@ fn put_below(buf: &mut [u8], at: usize, below: Below) -> usize
     put_word(buf, first_at, below.first.unwrap_or(u32::MAX))
 }
 
-// The bytes of the jobs, from the buffer's start on. Not over chunks_exact_mut(12): once that borrow
-// is over, a proof knows the buffer's length and not its bytes.
+// The bytes of the jobs, from the buffer's start on. Not over chunks_exact_mut(12), which was
+// tried: once that borrow is over, a proof knows the buffer's length and not its bytes.
 fn put_answers(buf: &mut [u8], jobs: &[Below])
     requires { length jobs.now * 12 ≤ length buf.old }
     ensures { buf.new ≡ written buf.old 0 (answers_upto jobs.now (length jobs.now)) }

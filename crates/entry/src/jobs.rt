@@ -5,7 +5,7 @@ ghost use Rattle.entry.specs.Promise.{ListFromPromise};
 
 use job::{Job, JobList, Refusal};
 
-// The 16 bits that stand at a place, low byte first.
+// The 16 bits that stand at a place, low byte first: a function, since a job has two such numbers.
 fn pair_at(bytes: &[u8], at: usize) -> u32
     requires { at + 2 ≤ length bytes.now }
     ensures { result ≡ pair_at bytes.now at }

@@ -8,6 +8,7 @@ use crate::parts::put_labelled;
 use shortfall::Below;
 
 // 'never below', or 'below in A of B windows a cycle, first in slot S'
+// (Room is asked for as in `parts`.)
 fn put_fall(line: &mut Line, below: Below)
     requires { length line.old + length (fall_text below.short below.windows below.first) ≤ 192 }
     ensures { line.new ≡ line.old ++ fall_text below.short below.windows below.first }

@@ -9,6 +9,7 @@ use crate::parts::put_labelled;
 use job::Refusal;
 
 // The value that the line names, after its label; nothing for the other rows.
+// (Room is asked for as in `parts`.)
 fn put_value(line: &mut Line, refusal: Refusal)
     requires { length line.old + length (value_text (told refusal)) ≤ 192 }
     ensures { line.new ≡ line.old ++ value_text (told refusal) }

@@ -11,6 +11,7 @@ use job::Refusal;
 use run::Totals;
 
 // 'the last word replaced by "over", "cycle too long" or "not judged"'
+// (Room is asked for as in `parts`.)
 fn put_word(line: &mut Line, answer: Admission)
     requires { length line.old + length (verdict_word (told_admission answer).number) ≤ 192 }
     ensures { line.new ≡ line.old ++ verdict_word (told_admission answer).number }

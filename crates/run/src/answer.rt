@@ -2,7 +2,8 @@
 use crate::state::State;
 use job::Refusal;
 
-// 'the choice, a job or idle': an enum and no `Option`, as document 01 names the form.
+// 'the choice, a job or idle': an enum and no `Option`, as document 01 names the form
+// (`told_choice`).
 #[derive(Clone, Copy, Debug, PartialEq, Eq)]
 pub enum Choice {
     Given(usize),
@@ -18,7 +19,7 @@ pub struct Slot {
     pub shorts: u16,
 }
 
-// 'A refused start gives the state of all zeros': it stands beside the answer.
+// 'A refused start gives the state of all zeros' (`StartAnswers`): it stands beside the answer.
 #[derive(Clone, Copy)]
 pub struct Started {
     pub answer: Result<(), Refusal>,

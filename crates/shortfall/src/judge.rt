@@ -52,7 +52,8 @@ fn tallied(list: CheckedList, setting: Setting, cycle: Cycle) -> [Tally; JobList
     requires cycle_value { cycle ≡ cycle_of list }
     ensures { result ≡ tallies_of (fresh_of list setting) cycle }
 {
-    // Read, so that the proof sees that the list has passed its check.
+    // Order and model are numbers of the setting, for the reason at `Setting::by_units`. The list is
+    // read, so that the proof sees that the list has passed its check.
     let _ = &list.list;
     if (setting.order == Setting::W) & (setting.model == Job::RELAXED) {
         if load(list, cycle) <= cycle.slots {

@@ -65,7 +65,8 @@ pub fn counted(totals: Totals, idle: bool, tagged: u32, short: u32) -> Totals
 }
 
 impl CheckedState {
-    // Every place moved on by the slot, which the place at number `at` is given.
+    // Every place moved on by the slot, which the place at number `at` is given. The pass stands here and in
+    // the two slot loops: handed to a function and back, the array would be copied.
     #[tactic(auto, using(crate::proofs::MovingLaws::moving_bounded))]
     fn all_moved(self, at: usize) -> Outcomes
         requires { at ≡ chosen_of self }

@@ -21,6 +21,7 @@ fn judged(cycle: Cycle, load: u32) -> Admission
     Ok(Admitted { cycle, load })
 }
 
+// The model is a number: any other is refused by row 15.
 pub fn verdict(list: JobList, model: u32) -> Admission
     ensures { VerdictPromise list model result }
 {

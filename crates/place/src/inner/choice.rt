@@ -58,7 +58,8 @@ impl Fraction {
 }
 
 impl Sound {
-    // 'Order V: lowest virtual deadline'; 'Order W: soonest window end, k'T − e slots away'.
+    // 'Order V: lowest virtual deadline'; 'Order W: soonest window end, k'T − e slots away'. The order is a
+    // number of the setting, for the reason at `Setting::by_units`.
     fn due_away(self) -> Fraction
         requires { eligible_of self.setting self.place ≡ true }
         ensures { result ≡ due_away self.setting self.place }
@@ -80,7 +81,7 @@ impl Sound {
 }
 
 // A place's number, and its distance from now. Nobody is the number of no place at 1/0, and no `None`:
-// with `Option<Held>` the writer took 3 to 18 in 100 instructions more.
+// with `Option<Held>` the writer took 3 to 18 in 100 instructions more (docs/SPEED.md).
 #[derive(Clone, Copy)]
 pub struct Held {
     pub at: usize,

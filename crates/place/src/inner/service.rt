@@ -17,7 +17,7 @@ pub struct Outcome {
 }
 
 // A place after a slot whose tag nobody asks for: a flag that is not computed (with it the loop over a
-// cycle took 300 instructions a slot of four jobs, without it 235).
+// cycle took 300 instructions a slot of four jobs, without it 235: docs/DECISIONS.md, 64).
 #[derive(Clone, Copy)]
 pub struct Passage {
     pub place: Place,

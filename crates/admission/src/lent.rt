@@ -12,7 +12,8 @@ pub fn admit(jobs: &[Job], model: u32) -> Admission
     verdict(JobList::of(jobs), model)
 }
 
-// For a caller that has no slice: admits the first `n` of an array by value, by slice; all 40 where `n` is larger.
+// For a caller that has no slice: admits the first `n` of an array by value, by slice; all 40 where `n`
+// is larger.
 pub fn admit_first(jobs: [Job; 40], n: usize, model: u32) -> Admission
     ensures { AdmitFirstPromise jobs n model result }
 {

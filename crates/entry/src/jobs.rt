@@ -26,7 +26,8 @@ fn job_from(bytes: &[u8], number: usize) -> Job
     }
 }
 
-// The list that the bytes hold, or row 14 (no `TryFrom`: list and bytes are types of others). Bytes behind the sixteenth job are counted and not read.
+// The list that the bytes hold, or row 14 (no `TryFrom`: list and bytes are types of others). Bytes behind
+// the sixteenth job are counted and not read.
 pub fn list_from(bytes: &[u8]) -> Result<JobList, Refusal>
     ensures { ListFromPromise bytes.now result }
 {

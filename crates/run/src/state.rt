@@ -47,7 +47,8 @@ impl State {
         }
     }
 
-    // The fresh state of a list, which stands beside its setting as document 01 hands them over: every window opens at slot 0. Places past the last job are zeros.
+    // The fresh state of a list, which stands beside its setting as document 01 hands them over: every
+    // window opens at slot 0. Places past the last job are zeros.
     pub fn fresh(list: JobList, setting: Setting) -> State
         ensures { FreshPromise list setting result }
     {

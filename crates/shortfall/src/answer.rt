@@ -10,8 +10,8 @@ pub struct Below {
     pub first: Option<u32>,
 }
 
-// The answer for a list, in fixed memory: `fallen` jobs fall below their part. Past the last job every number is 0
-// and no slot is named.
+// The answer for a list, in fixed memory: `fallen` jobs fall below their part. Past the last job every
+// number is 0 and no slot is named.
 #[derive(Clone, Copy, Debug, PartialEq, Eq)]
 pub struct Judgement {
     pub fallen: usize,

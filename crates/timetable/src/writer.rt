@@ -5,7 +5,8 @@ use crate::inner::fill;
 use job::Refusal;
 use run::{CheckedState, State};
 
-// 'written from a stated offset of the caller's buffer'. Tests 10, 12, 11. Refused, it writes nothing and leaves the state as it came.
+// 'written from a stated offset of the caller's buffer'. Tests 10, 12, 11. Refused, it writes nothing and
+// leaves the state as it came.
 pub fn write(state: &mut State, buf: &mut [u8], offset: usize, n: usize) -> Result<(), Refusal>
     ensures { WritePromise state.old buf.old offset n result state.new buf.new }
 {

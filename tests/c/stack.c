@@ -18,7 +18,7 @@
 enum entry { ADMIT, FILL, BELOW, ENTRIES };
 static const char *const names[ENTRIES] = {"filbertoss_admit", "filbertoss_fill", "filbertoss_below"};
 
-/* 'filbertoss_fill less than two thirds of it, filbertoss_admit less than an eighth' */
+/* 'filbertoss_fill less than two thirds of this number, filbertoss_admit less than an eighth' */
 static const size_t limits[ENTRIES] = {FILBERTOSS_STACK_BYTES / 8, FILBERTOSS_STACK_BYTES * 2 / 3,
                                        FILBERTOSS_STACK_BYTES};
 

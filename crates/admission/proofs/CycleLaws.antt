@@ -3,7 +3,7 @@ use mathlib.Core.Path.{◌≡◌, refl, sym, ◌∙◌, ap}
 use mathlib.Core.Logic.{◌⊎◌, inl, inr}
 use mathlib.Core.List.{List, [], ◌∷◌}
 use Prim.Native.Nat.{ℕ, zero, suc, ◌+◌, ◌*◌, ◌/◌, ◌≤◌, ◌<◌, ◌∣◌}
-use native.Mathlib.Nat.{mul_comm, mul-pos, mul-le-mul, le_antisymm, div-mul_cancel, eq-zero-or-pos, one-dvd, dvd_refl, dvd-zero, dvd_trans, dvd-mul_left, dvd-mul_right, mul-dvd-mul_left, mul-dvd-mul_right, dvd_of_mul-dvd-mul_right, pos_of_dvd_of_pos, le_of_dvd}
+use native.Mathlib.Nat.{mul_comm, mul-pos, mul-le-mul, le_trans, le_antisymm, div-le_self, div-mul_cancel, eq-zero-or-pos, one-dvd, dvd_refl, dvd-zero, dvd_trans, dvd-mul_left, dvd-mul_right, mul-dvd-mul_left, mul-dvd-mul_right, dvd_of_mul-dvd-mul_right, pos_of_dvd_of_pos, le_of_dvd}
 use native.Mathlib.Numerals.{add-one}
 use native.Mathlib.Decide.{le_ind}
 use native.Mathlib.Omega.{arith}
@@ -122,6 +122,9 @@ cycle_multiple l s =
 
 pub cycle_is : (l : JobList) {h : ℕ} → SoundList l → LeastCommonMultiple l h → h ≡ cycle_of l
 cycle_is l s multiple = multiple_unique multiple (cycle_multiple l s)
+
+pub next_fits : (h d : ℕ) {j : Job} → SoundJob j → h ≤ cycle_most → h / d * window_of j ≤ cycle_most * (k_most * t_most)
+next_fits h d s short = mul-le-mul (le_trans (div-le_self h d) short) (window_most_lem s)
 
 -- what is told of a cycle, and back
 pub within_short : {h : ℕ} → h ≤ cycle_most → within_told h ≡ row 0 (h ∷ [])

@@ -22,10 +22,11 @@ impl Ends {
         jobs
     }
 
-    // A list by value that has the first 16 of them, and any count.
+    // A list by value that has the first 16 of them, and any count: those behind it are never read.
     fn list(self, count: usize) -> JobList {
-        let records = self.records();
-        JobList::by(count, |at| records[at])
+        let mut jobs = [Job::none(); 16];
+        jobs.copy_from_slice(&self.records()[..16]);
+        JobList { jobs, count }
     }
 }
 

@@ -5,8 +5,21 @@ use admission::{amounts, verdict};
 use job::{Job, JobList, number_of};
 use std::io;
 
+// Every record holds the job, those behind the count too: they are never read.
 fn same_jobs(job: Job, count: usize) -> JobList {
-    JobList::by(count, |_| job)
+    JobList {
+        jobs: [job; 16],
+        count,
+    }
+}
+
+// The jobs given; the records behind them hold the first.
+fn these_jobs(jobs: &[Job]) -> JobList {
+    let mut list = JobList::of(jobs);
+    for at in list.count..16 {
+        list.jobs[at] = list.jobs[0];
+    }
+    list
 }
 
 fn show(rt: &impl Print, name: &str, list: JobList, model: u32) -> io::Result<()> {
@@ -53,7 +66,7 @@ fn show_counts(rt: &impl Print) -> io::Result<()> {
     show(
         rt,
         "second job wrong",
-        JobList::of(&[Job::of(1, 2, 1, 1), Job::of(3, 2, 1, 1)]),
+        these_jobs(&[Job::of(1, 2, 1, 1), Job::of(3, 2, 1, 1)]),
         0,
     )?;
     show(rt, "original model", same_jobs(Job::of(1, 16, 1, 1), 1), 1)?;
@@ -71,19 +84,19 @@ fn show_cycles(rt: &impl Print) -> io::Result<()> {
     show(
         rt,
         "cycle 16777215",
-        JobList::of(&[Job::of(1, 4095, 1, 1), Job::of(1, 241, 1, 17)]),
+        these_jobs(&[Job::of(1, 4095, 1, 1), Job::of(1, 241, 1, 17)]),
         0,
     )?;
     show(
         rt,
         "cycle 16777217",
-        JobList::of(&[Job::of(1, 257, 1, 97), Job::of(1, 673, 1, 1)]),
+        these_jobs(&[Job::of(1, 257, 1, 97), Job::of(1, 673, 1, 1)]),
         0,
     )?;
     show(
         rt,
         "case H",
-        JobList::of(&[
+        these_jobs(&[
             Job::of(1, 2, 1, 1),
             Job::of(1, 3, 1, 1),
             Job::of(1, 6, 1, 1),
@@ -93,14 +106,14 @@ fn show_cycles(rt: &impl Print) -> io::Result<()> {
     show(
         rt,
         "case I",
-        JobList::of(&[
+        these_jobs(&[
             Job::of(1, 2, 1, 1),
             Job::of(1, 2, 1, 1),
             Job::of(1, 100, 1, 255),
         ]),
         0,
     )?;
-    let far = JobList::of(&[
+    let far = these_jobs(&[
         Job::of(1, 4093, 1, 251),
         Job::of(1, 4091, 1, 241),
         Job::of(1, 4079, 1, 239),

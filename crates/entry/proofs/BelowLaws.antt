@@ -20,7 +20,7 @@ use Rattle.job.proofs.TestLaws.{clash}
 use Rattle.text.specs.Word.{word_bytes}
 use Rattle.text.specs.Written.{written}
 use Rattle.text.proofs.WordLaws.{word_long}
-use Rattle.text.proofs.WrittenLaws.{Ends, ends_length, ends_at_once, followed}
+use Rattle.text.proofs.WrittenLaws.{Ends, ends_as, ends_length, ends_at_once, followed}
 use Rattle.place.specs.declared.setting.Setting.{Setting}
 use Rattle.shortfall.specs.declared.answer.Below.{Below}
 use Rattle.shortfall.specs.declared.answer.Judgement.{Judgement}
@@ -55,25 +55,30 @@ pub answers_cut :
 answers_cut jobs k h = ap (answers_upto (take k jobs)) (length-take-le k jobs h) ∙ cut jobs k k (omega arith)
 
 -- a number written
-word_ends :
+pub word_ends :
     {b₀ b : List ℕ} {at r : ℕ} (x : ℕ) → r ≡ at + 4 → b ≡ written b₀ at (word_bytes x) → at + 4 ≤ length b₀
     → Ends b₀ at (word_bytes x) b r
 word_ends x place bytes room = record { place = omega (arith, word_long x); bytes = bytes; room = omega arith }
 
 -- one job, by its three numbers
+pub answer_ends :
+    (a : Below) {b₀ b₁ b₂ b₃ : List ℕ} {at r₁ r₂ r₃ first : ℕ} → Ends b₀ at (word_bytes a.windows) b₁ r₁
+    → Ends b₁ r₁ (word_bytes a.short) b₂ r₂ → first ≡ first_number a.first → Ends b₂ r₂ (word_bytes first) b₃ r₃
+    → Ends b₀ at (answer_bytes a) b₃ r₃
+unfolding answer_bytes
+answer_ends a one two is three = followed (followed one two) (ends_as (ap word_bytes is) three)
+
 pub answer_written :
     (a : Below) (b₀ : List ℕ) (at : ℕ) {b₁ b₂ b₃ : List ℕ} {r₁ r₂ first : ℕ} → at + 12 ≤ length b₀
     → r₁ ≡ at + 4 → b₁ ≡ written b₀ at (word_bytes a.windows)
     → r₂ ≡ r₁ + 4 → b₂ ≡ written b₁ r₁ (word_bytes a.short)
     → first ≡ first_number a.first → b₃ ≡ written b₂ r₂ (word_bytes first)
     → b₃ ≡ written b₀ at (answer_bytes a)
-unfolding answer_bytes
-answer_written a b₀ at {b₂ = b₂} {r₂ = r₂} room one windows two short is first =
+answer_written a b₀ at {r₂ = r₂} {first = n} room one windows two short is first =
     let w = word_ends a.windows one windows (omega arith) in
     let s = word_ends a.short two short (omega (arith, ends_length w)) in
-    let bytes = first ∙ ap (λ (x : ℕ). written b₂ r₂ (word_bytes x)) is in
-    let f = word_ends {r = r₂ + 4} (first_number a.first) refl bytes (omega (arith, ends_length w, ends_length s)) in
-    (followed (followed w s) f).bytes
+    let f = word_ends {r = r₂ + 4} n refl first (omega (arith, ends_length w, ends_length s)) in
+    (answer_ends a w s is f).bytes
 
 -- the jobs, one after another
 module _ (jobs : List Below) (b₀ : List ℕ) (room : length jobs * 12 ≤ length b₀) where
@@ -107,11 +112,11 @@ answers_written l s b few is bytes =
     ∙ ap (written b 0) (answers_cut jobs l.count (omega arith))
 
 -- a list that is answered is sound
-told_sound : (l : JobList) (setting : Setting) → passed ≡ shortfall_told l setting → SoundList l
+pub told_sound : (l : JobList) (setting : Setting) → (shortfall_told l setting).number ≡ 0 → SoundList l
 told_sound l setting e = go (row_view l setting)
   where
     number : {t : Told} → shortfall_told l setting ≡ t → t.number ≡ 0
-    number f = ap (λ (t : Told). t.number) (sym f ∙ sym e)
+    number f = sym (ap (λ (t : Told). t.number) f) ∙ e
 
     go : RowView l setting → SoundList l
     go (strange none f) = absurd (omega (arith, number f))
@@ -120,7 +125,7 @@ told_sound l setting e = go (row_view l setting)
     go (judgeable a s short f) = s
 
 pub told_few : (l : JobList) (setting : Setting) → passed ≡ shortfall_told l setting → l.count ≤ 16
-told_few l setting e = (told_sound l setting e).count.high
+told_few l setting e = (told_sound l setting (ap (λ (t : Told). t.number) (sym e))).count.high
 
 -- the tests of `below`
 pub below_broken : (jobs : List ℕ) (setting : Setting) (len : ℕ) → (Whole jobs → ⊥) → below_told jobs setting len ≡ row 14 []

@@ -9,9 +9,9 @@ use lib.ListN.{length, get_or}
 use borrow.Author.Tests.{eqb-false}
 use Rattle.job.specs.declared.refusal.Refusal.{Refusal}
 use Rattle.job.specs.declared.refusal.Refusal.TheVariants.{NoJobs, TooManyJobs, Period, Service, Window, Share, OriginalModel, CycleTooLong, Overload, StateOutOfRange, ClockAtLimit, BufferTooShort, SheetForm, JobBytes, OrderOrModel, SlotCount, SheetTooLong}
-use Rattle.std.specs.Prelude.{Result, Ok, Err}
-use Rattle.job.specs.Told.{Told, row, told, told_checked}
-use Rattle.job.specs.Meaning.{RefusalOneToOne, AnswerOneToOne, CheckedOneToOne}
+use Rattle.std.specs.Prelude.{Ok, Err}
+use Rattle.job.specs.Told.{Told, row, told}
+use Rattle.job.specs.Meaning.{RefusalOneToOne, AnswerOneToOne, CheckedOneToOne, RefusedOneToOne}
 
 -- two answers of different numbers, or of different numbers of values, are not equal
 pub apart : {n m : ℕ} {a b : List ℕ} → row n a ≡ row m b → eqb n m ≡ false → ⊥
@@ -88,3 +88,14 @@ answer_one_to_one A values apart_values (Err r) (Err s) e = ap Err (refusal_one_
 -- .. of a check that hands nothing back
 pub checked_one_to_one : CheckedOneToOne
 checked_one_to_one = answer_one_to_one (Unit {0}) (λ _. []) (λ _ _ _. refl)
+
+-- .. of any two answers, what is refused
+pub refused_one_to_one : RefusedOneToOne
+refused_one_to_one A B (Ok x) (Ok y) e r = (λ f. cc, λ f. cc)
+refused_one_to_one A B (Ok x) (Err s) e r = absurd (not_passed s (sym e))
+refused_one_to_one A B (Err s) (Ok y) e r = absurd (not_passed s e)
+refused_one_to_one A B (Err s) (Err t) e r =
+    let same : s ≡ t = refusal_one_to_one s t e in (
+      λ f. let is : s ≡ r = cc in ap Err (sym same ∙ is),
+      λ f. let is : t ≡ r = cc in ap Err (same ∙ is),
+    )

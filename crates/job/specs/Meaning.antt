@@ -1,5 +1,5 @@
 -- What a reader may conclude from the promises of `job`, of whatever result they allow. Each statement is proved in proofs/, under its name.
-use Rattle.std.specs.Prelude.{Result, IfOk, ◌≡◌, ◌↔◌, [], ◌∷◌, List, ℕ, ◌<◌, length, get_or}
+use Rattle.std.specs.Prelude.{Result, Err, IfOk, ◌≡◌, ◌↔◌, [], ◌∷◌, List, ℕ, ◌<◌, length, get_or}
 use Rattle.job.specs.declared.record.Job.{Job}
 use Rattle.job.specs.declared.list.JobList.{JobList}
 use Rattle.job.specs.declared.refusal.Refusal.{Refusal}
@@ -21,6 +21,12 @@ AnswerOneToOne =
 -- .. as of a check that hands nothing back
 abbrev pub CheckedOneToOne : Type 0
 CheckedOneToOne = (a b : Result (Unit {0}) Refusal) → told_checked a ≡ told_checked b → a ≡ b
+
+-- .. and two answers that tell the same refuse the same, whatever each hands back
+abbrev pub RefusedOneToOne : Type 1
+RefusedOneToOne =
+    (A B : Type 0) (a : Result A Refusal) (b : Result B Refusal) → told_checked a ≡ told_checked b → (r : Refusal)
+    → (a ≡ Err r) ↔ (b ≡ Err r)
 
 -- `Refusal::number`, `number_of`: the row's number, 0 for none
 abbrev pub RefusalNumbered : Type 0

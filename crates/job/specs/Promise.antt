@@ -7,6 +7,7 @@ use Rattle.job.specs.declared.refusal.Refusal.{Refusal}
 use Rattle.job.specs.Told.{told, told_checked}
 use Rattle.job.specs.Check.{no_job, job_at, job_told, list_told}
 use Rattle.job.specs.Filled.{empty_list, list_by}
+use Rattle.job.specs.Window.{window_of}
 
 -- `Job::of`, `Job::none`, `Job::check`
 pub record OfPromise (c t m k : ℕ) (r : Job) : Type 0 where
@@ -44,6 +45,11 @@ ListOfPromise jobs r = r ≡ list_by (job_at jobs) (length jobs)
 
 abbrev pub ListCheckPromise : JobList → Result JobList Refusal → Type 0
 ListCheckPromise l r = (told_checked r ≡ list_told l) × IfOk r (λ c. c ≡ l)
+
+-- `CheckedJob::window`: kT, which is not 0
+pub record WindowPromise (j : Job) (r : ℕ) : Type 0 where
+  pub value : r ≡ window_of j
+  pub some : 0 < r
 
 -- `number_of`, `Refusal::number`
 abbrev pub AnswerNumberPromise : {A : Type 0} → Result A Refusal → ℕ → Type 0

@@ -3,7 +3,7 @@
 // would need a trait for the fact and be longer.
 ghost use Rattle.std.specs.Prelude.{◌≡◌, ◌<◌};
 ghost use Rattle.job.specs.Check.{job_at};
-ghost use Rattle.job.specs.Window.{window_of};
+ghost use Rattle.job.specs.Promise.{WindowPromise};
 
 use crate::list::JobList;
 use crate::record::Job;
@@ -32,8 +32,7 @@ impl Model for CheckedJob {
 impl CheckedJob {
     // kT, the slots of the job's window.
     pub fn window(self) -> u32
-        ensures value { result ≡ window_of self }
-        ensures some { 0 < result }
+        ensures { WindowPromise self result }
     {
         self.job.k * self.job.t
     }

@@ -26,6 +26,12 @@ use Rattle.place.proofs.DistanceLaws.{plus, difference_plus, leb_shift}
 use Rattle.place.proofs.SignedLaws.{abs_sub, abs_mul, abs_fits, small_pos, difference_most}
 
 module _ {setting : Setting} {q : Place} (s : SoundPlace setting q) where
+  pub mc_high : q.job.m * q.job.c ≤ 1044480
+  mc_high = mul-le-mul {n₂ = 255} {m₂ = 4096} (omega arith) (omega arith)
+
+  pub pc_high : q.at.p * q.job.c ≤ 1044480
+  pc_high = mul-le-mul {n₂ = 255} {m₂ = 4096} (omega arith) (omega arith)
+
   -- one instance a period, at most
   finished_high : finished_of setting q ≤ q.at.p
   unfolding finished_of
@@ -35,11 +41,11 @@ module _ {setting : Setting} {q : Place} (s : SoundPlace setting q) where
       go true e = div-le_of_le-mul q.job.c (rw mul_comm (s.service.by_units_lem e).u_p)
       go false e = (s.service.by_instances e).s_p
 
-  owed_high : owed_of setting q ≤ 255
+  pub owed_high : owed_of setting q ≤ 255
   unfolding owed_of
   owed_high = omega arith
 
-  window_high : window_left q ≤ 1044480
+  pub window_high : window_left q ≤ 1044480
   unfolding window_left
   window_high = mul-le-mul {n₂ = 255} {m₂ = 4096} (omega arith) (omega arith)
 
@@ -62,7 +68,7 @@ module _ {setting : Setting} {q : Place} (s : SoundPlace setting q) where
   pub gone_high : q.at.e * owed_of setting q ≤ 1044480
   gone_high = mul-le-mul {n₂ = 4096} {m₂ = 255} (omega arith) owed_high
 
-  numerator_abs : nat_abs (numerator_of setting q) ≤ 2088960
+  pub numerator_abs : nat_abs (numerator_of setting q) ≤ 2088960
   unfolding numerator_of
   numerator_abs = omega (arith, abs_sub (window_left q) (q.at.e * owed_of setting q), window_high, gone_high)
 
@@ -171,6 +177,9 @@ module _ {setting : Setting} {q : Place} (s : SoundPlace setting q) where
       let next : q.at.e + 1 ≤ 4096 = omega arith in
       let done : finished_of setting q ≤ 255 = omega (arith, finished_high) in
       omega (arith, window_high, mul-le-mul next done)
+
+  pub next_high : (q.at.e + 1) * q.job.m ≤ 1044480
+  next_high = mul-le-mul {n₂ = 4096} {m₂ = 255} (omega arith) (omega arith)
 
   pub owed_most : owed_of setting q ≤ q.job.m
   unfolding owed_of

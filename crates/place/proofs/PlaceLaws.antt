@@ -35,7 +35,7 @@ module _ (setting : Setting) (q : Place) where
   eligible_units e h =
       both_below q.at.u (q.job.m * q.job.c) q.at.u (q.at.p * q.job.c) (rw e at h)
 
-  eligible_instances :
+  pub eligible_instances :
       by_units setting ≡ false → eligible_of setting q ≡ true → (q.at.s < q.job.m) × (q.at.v < q.job.c)
   unfolding eligible_of
   eligible_instances e h = both_below q.at.s q.job.m q.at.v q.job.c (rw e at h)
@@ -222,7 +222,7 @@ module _ {setting : Setting} {q : Place} (sound : SoundPlace setting q) where
             };
       }
 
-  given_sound : (chosen : Bool) → (chosen ≡ true → candidate_of setting q ≡ true) → SoundPlace setting (given_of setting q chosen)
+  pub given_sound : (chosen : Bool) → (chosen ≡ true → candidate_of setting q ≡ true) → SoundPlace setting (given_of setting q chosen)
   unfolding given_of
   given_sound true fair = served_sound (fair refl)
   given_sound false fair = sound
@@ -230,7 +230,7 @@ module _ {setting : Setting} {q : Place} (sound : SoundPlace setting q) where
   tagged_sound : (tags : Bool) → SoundPlace setting (tagged_of q tags)
   tagged_sound tags = shifted_sound q.at.e (tags || q.at.tag) sound.e_high
 
-  turned_sound : SoundPlace setting (turned_of q)
+  pub turned_sound : SoundPlace setting (turned_of q)
   unfolding turned_of
   turned_sound =
       by_test (SoundPlace setting) (ltb (q.at.e + 1) q.job.t)
@@ -241,7 +241,7 @@ module _ {setting : Setting} {q : Place} (sound : SoundPlace setting q) where
       (λ f. opened_sound sound.job))
 
 module _ {setting : Setting} {q : Place} {chosen : Bool} (sound : SoundPlace setting q) (fair : chosen ≡ true → candidate_of setting q ≡ true) where
-  worked_sound : SoundPlace setting (worked_of setting q chosen)
+  pub worked_sound : SoundPlace setting (worked_of setting q chosen)
   unfolding worked_of
   worked_sound = tagged_sound (given_sound sound chosen fair) (tags_of setting q chosen)
 

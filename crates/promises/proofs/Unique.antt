@@ -1,9 +1,11 @@
 -- Each public operation's promise allows one result: by one law for equations, and that `told` is one-to-one.
-use mathlib.Core.Path.{◌≡◌, sym, ap, ◌∙◌}
+use mathlib.Core.Path.{◌≡◌, refl, sym, ap, ◌∙◌}
+use mathlib.Core.Logic.{◌↔◌}
+use mathlib.Core.Bool.{Bool, true, false}
 use Prim.Native.Nat.{ℕ, min, ◌<◌}
 use native.Mathlib.Decide.{dec_lt}
 use native.Mathlib.Omega.{arith}
-use Rattle.std.specs.Prelude.{Result, Ok, Err, IfOk}
+use Rattle.std.specs.Prelude.{Result, Ok, Err, IfOk, IsTrue}
 use Rattle.std.proofs.lemmas.List.{ext_get_or}
 use Rattle.job.specs.declared.record.Job.{Job}
 use Rattle.job.specs.declared.refusal.Refusal.{Refusal}
@@ -18,7 +20,7 @@ use Rattle.admission.proofs.DivisorLaws.{divisor_unique}
 use Rattle.run.proofs.AnswerLaws.{step_one_to_one}
 use Rattle.shortfall.specs.Shortfall.{cycle_judged}
 use Rattle.sheet.proofs.ReadLaws.{read_unique}
-use Rattle.promises.specs.Unique.{Unique, JobUnique, AdmissionUnique, RunUnique, BytesUnique}
+use Rattle.promises.specs.Unique.{Unique, JobUnique, AdmissionUnique, RunUnique, TextUnique, BytesUnique}
 
 -- a result fixed by an equation
 fixed : {A : Type 0} (x : A) → Unique (λ (r : A). r ≡ x)
@@ -58,6 +60,7 @@ job_unique =
       list_by = λ answers one count a b e f. lists_alike answers one count a b e f;
       list_of = λ jobs. fixed _;
       list_check = λ l. checked_fixed l _;
+      window = λ j a b e f. e.value ∙ sym f.value;
       answer_number = λ A a. fixed _;
       refusal_number = λ r. fixed _;
     }
@@ -83,6 +86,7 @@ run_unique =
       zeros = fixed _;
       fresh = λ l s. fixed _;
       in_range = λ s. fixed _;
+      choose = λ s. fixed _;
       start =
           λ l s a b e f i.
           record {
@@ -92,6 +96,16 @@ run_unique =
       step = λ s a b x y e f. (step_one_to_one a b (e.0 ∙ sym f.0), e.1 ∙ sym f.1);
       shortfall = λ l s. checked_fixed (cycle_judged l s) _;
     }
+
+-- a test fixed by what it says
+test_fixed : {P : Type 0} → Unique (λ (r : Bool). IsTrue r ↔ P)
+test_fixed true true e f = refl
+test_fixed true false e f = sym (f.1 (e.0 refl))
+test_fixed false true e f = e.1 (f.0 refl)
+test_fixed false false e f = refl
+
+pub text_unique : TextUnique
+text_unique = record { empty = fixed _; slice = λ now. fixed _; room = λ most now count. test_fixed }
 
 pub bytes_unique : BytesUnique
 bytes_unique =

@@ -32,7 +32,7 @@ WriteFollows =
     → Run l setting slots state → (before : List ℕ) (offset n : ℕ) (r : Result (Unit {0}) Refusal) (next : State) (after : List ℕ)
     → WritePromise state before offset n r next after → r ≡ Ok tt → WriteKeeps l setting slots offset n after next
 
--- `fill`, and so `filbertoss_fill` (`EntryFills` of entry): where the number of the answer is 0, the bytes written keep the rules
+-- `fill`, and so `filbertoss_fill` (`EntryFills` and `FillNumbers` of entry): where the number of the answer is 0, the bytes written keep the rules
 pub record FillKeeps (l : JobList) (setting : Setting) (offset n : ℕ) (after : List ℕ) : Type 0 where
   pub long : length (part after offset n) ≡ n
   pub follows : Follows l setting (part after offset n)

@@ -4,7 +4,7 @@ use Rattle.std.specs.Prelude.{◌≡◌, List, ℕ, Result}
 use Rattle.job.specs.declared.record.Job.{Job}
 use Rattle.job.specs.declared.list.JobList.{JobList}
 use Rattle.job.specs.declared.refusal.Refusal.{Refusal}
-use Rattle.job.specs.Promise.{OfPromise, NonePromise, JobCheckPromise, EmptyPromise, ListByPromise, ListOfPromise, ListCheckPromise, AnswerNumberPromise, RefusalNumberPromise}
+use Rattle.job.specs.Promise.{OfPromise, NonePromise, JobCheckPromise, EmptyPromise, ListByPromise, ListOfPromise, ListCheckPromise, WindowPromise, AnswerNumberPromise, RefusalNumberPromise}
 use Rattle.admission.specs.Answer.{Admission}
 use Rattle.admission.specs.Promise.{CyclePromise, LoadPromise, DivisorPromise, VerdictPromise, AdmitPromise, AdmitFirstPromise}
 use Rattle.place.specs.declared.setting.Setting.{Setting}
@@ -12,7 +12,8 @@ use Rattle.place.specs.Promise.{MadePromise, AllowedPromise, BlankPromise, Opene
 use Rattle.run.specs.declared.state.State.{State}
 use Rattle.run.specs.declared.state.Totals.{Totals}
 use Rattle.run.specs.declared.answer.Slot.{Slot}
-use Rattle.run.specs.Promise.{ZerosPromise, FreshPromise, InRangePromise, StartPromise, StepPromise}
+use Rattle.run.specs.Promise.{ZerosPromise, FreshPromise, InRangePromise, ChoosePromise, StartPromise, StepPromise}
+use Rattle.text.specs.Promise.{EmptyPromise as EmptyTextPromise, SlicePromise, RoomPromise}
 use Rattle.timetable.specs.Promise.{WritePromise}
 use Rattle.shortfall.specs.declared.answer.Below.{Below}
 use Rattle.shortfall.specs.Promise.{ShortfallPromise}
@@ -28,7 +29,7 @@ Unique {A} promise = (a b : A) → promise a → promise b → a ≡ b
 abbrev pub BothUnique : {A B : Type 0} → (A → B → Type 0) → Type 0
 BothUnique {A} {B} promise = (a b : A) (x y : B) → promise a x → promise b y → (a ≡ b) × (x ≡ y)
 
--- `Job`, `JobList`, `number_of`, `Refusal`; a list by calls, where each call allows one job
+-- `Job`, `JobList`, `CheckedJob`, `number_of`, `Refusal`; a list by calls, where each call allows one job
 pub record JobUnique : Type 1 where
   pub of : (c t m k : ℕ) → Unique (OfPromise c t m k)
   pub none : Unique NonePromise
@@ -37,6 +38,7 @@ pub record JobUnique : Type 1 where
   pub list_by : (answers : ℕ → Job → Type 0) → ((at : ℕ) → Unique (answers at)) → (count : ℕ) → Unique (ListByPromise answers count)
   pub list_of : (jobs : List Job) → Unique (ListOfPromise jobs)
   pub list_check : (l : JobList) → Unique (ListCheckPromise l)
+  pub window : (j : Job) → Unique (WindowPromise j)
   pub answer_number : (A : Type 0) (a : Result A Refusal) → Unique (AnswerNumberPromise a)
   pub refusal_number : (r : Refusal) → Unique (RefusalNumberPromise r)
 
@@ -58,9 +60,16 @@ pub record RunUnique : Type 0 where
   pub zeros : Unique ZerosPromise
   pub fresh : (l : JobList) (s : Setting) → Unique (FreshPromise l s)
   pub in_range : (s : State) → Unique (InRangePromise s)
+  pub choose : (s : State) → Unique (ChoosePromise s)
   pub start : (l : JobList) (s : Setting) → Unique (StartPromise l s)
   pub step : (s : State) → BothUnique (StepPromise s)
   pub shortfall : (l : JobList) (s : Setting) → Unique (ShortfallPromise l s)
+
+-- `Text`
+pub record TextUnique : Type 0 where
+  pub empty : Unique EmptyTextPromise
+  pub slice : (now : List ℕ) → Unique (SlicePromise now)
+  pub room : (most : ℕ) (now : List ℕ) (count : ℕ) → Unique (RoomPromise most now count)
 
 -- `write`, the C entries, `fill` and `below`, `Sheet`, `sheet::read`, the seven lines
 pub record BytesUnique : Type 0 where

@@ -1,5 +1,5 @@
 -- What each public operation of `run` promises, by name: the contracts say these names, and promises/specs/Unique speaks of them.
-use Rattle.std.specs.Prelude.{◌≡◌, Bool, Result}
+use Rattle.std.specs.Prelude.{ℕ, ◌≡◌, Bool, Result}
 use Rattle.job.specs.declared.refusal.Refusal.{Refusal}
 use Rattle.job.specs.declared.list.JobList.{JobList}
 use Rattle.job.specs.Told.{told_checked}
@@ -9,6 +9,7 @@ use Rattle.run.specs.declared.answer.Started.{Started}
 use Rattle.run.specs.declared.answer.Slot.{Slot}
 use Rattle.run.specs.State.{zeros, fresh_of}
 use Rattle.run.specs.Range.{state_in_range}
+use Rattle.run.specs.Choice.{chosen_of}
 use Rattle.run.specs.Answer.{told_step}
 use Rattle.run.specs.Step.{start_told, start_state, step_told, step_state}
 
@@ -21,6 +22,10 @@ FreshPromise l s r = r ≡ fresh_of l s
 
 abbrev pub InRangePromise : State → Bool → Type 0
 InRangePromise s r = r ≡ state_in_range s
+
+-- `CheckedState::choose`: the number of the place chosen, or that of no place
+abbrev pub ChoosePromise : State → ℕ → Type 0
+ChoosePromise s r = r ≡ chosen_of s
 
 -- `start`; `step`, of a state before it, an answer, and the state after it
 abbrev pub StartPromise : JobList → Setting → Started → Type 0

@@ -2,26 +2,53 @@
 use mathlib.Core.Path.{◌≡◌, refl, sym, ◌∙◌, ap, subst}
 use mathlib.Core.Bool.{Bool, true, false}
 use mathlib.Core.List.{List, [], ◌∷◌}
-use Prim.Native.Nat.{ℕ, suc, ◌+◌, ◌≤◌, ◌<◌}
+use Prim.Native.Nat.{ℕ, zero, suc, ◌+◌, ◌≤◌, ◌<◌}
 use native.Mathlib.Numerals.{add-one}
 use native.Mathlib.Omega.{arith}
 use lib.ListN.{length}
 use Rattle.std.specs.Prelude.{Result, IfOk}
+use Rattle.job.specs.declared.record.Job.{Job}
 use Rattle.job.specs.declared.refusal.Refusal.{Refusal}
 use Rattle.job.specs.Told.{row, told_checked}
 use Rattle.sheet.specs.declared.reading.Sheet.{Sheet}
+use Rattle.sheet.specs.declared.reader.Field.{Field}
+use Rattle.sheet.specs.declared.reader.Field.TheVariants.{Order, Model, Slots, Spare, C, T, M, K}
 use Rattle.sheet.specs.declared.reader.Reader.{Reader}
 use Rattle.sheet.specs.Form.{bytes_most}
 use Rattle.sheet.specs.Sheet.{sheet_told}
-use Rattle.sheet.specs.Reader.{byte_at, start_reader, SoundReader, fits_of, advanced_of, between_lines, reader_upto, fits_upto}
+use Rattle.sheet.specs.Reader.{byte_at, start_reader, SoundReader, own_byte, fits_of, pushed_of, job_with, sheet_with, stored_of, advanced_of, between_lines, reader_upto, fits_upto}
 use Rattle.sheet.specs.Answer.{read_told}
 use Rattle.sheet.specs.Promise.{ReadPromise}
 use Rattle.job.proofs.TestLaws.{refuted, clash}
+use Rattle.place.proofs.CondLaws.{by_test}
 use Rattle.sheet.proofs.HoldsLaws.{holds_sound}
 use Rattle.sheet.proofs.UptoLaws.{upto_holds, form_fits, formed_fits, Stop, place_is}
 use Rattle.sheet.proofs.ReadLaws.{read_formed, read_formless}
 
+-- a byte adds at most one job
+sheet_count : (field : Field) (x : ℕ) (j : Job) (s : Sheet) → (sheet_with field x j s).list.count ≤ s.list.count + 1
+unfolding pushed_of
+sheet_count Order x j s = omega arith
+sheet_count Model x j s = omega arith
+sheet_count Slots x j s = omega arith
+sheet_count Spare x j s = omega arith
+sheet_count C x j s = omega arith
+sheet_count T x j s = omega arith
+sheet_count M x j s = omega arith
+sheet_count K x j s = omega arith
+
+advanced_count : (r : Reader) (b : ℕ) → (advanced_of r b).sheet.list.count ≤ r.sheet.list.count + 1
+unfolding advanced_of stored_of
+advanced_count r b =
+    by_test (λ (q : Reader). q.sheet.list.count ≤ r.sheet.list.count + 1) (own_byte r b) (λ e. omega arith)
+    (λ e. sheet_count r.field r.value (job_with r.field r.value r.job) r.sheet)
+
 module _ (bytes : List ℕ) where
+  count_upto_lem : (n : ℕ) → (reader_upto bytes n).sheet.list.count ≤ n
+  unfolding reader_upto
+  count_upto_lem zero = omega arith
+  count_upto_lem (suc n) = omega (arith, advanced_count (reader_upto bytes n) (byte_at bytes n), count_upto_lem n)
+
   -- the reader after n bytes, all of which fitted
   pub record Along (r : Reader) (n : ℕ) : Type 0 where
     pub reader_is : r ≡ reader_upto bytes n
@@ -34,6 +61,9 @@ module _ (bytes : List ℕ) where
   module _ {r : Reader} {n : ℕ} (along : Along r n) where
     pub along_sound : n ≤ length bytes → SoundReader r
     along_sound h = rw along.reader_is (holds_sound (upto_holds bytes n h along.fits))
+
+    pub along_count : r.sheet.list.count ≤ n
+    along_count = rw along.reader_is (count_upto_lem n)
 
     fits_next : (b : Bool) → fits_of r (byte_at bytes n) ≡ b → fits_upto bytes (suc n) ≡ b
     unfolding fits_upto

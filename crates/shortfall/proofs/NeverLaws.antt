@@ -37,7 +37,7 @@ short_of_run l setting jobs allowed slots state run n inside j listed =
     (short_after l setting jobs allowed (length slots) (run_short l setting jobs allowed slots state run) n inside j listed)
 
 -- an admitted list in window order
-never_in_order :
+pub never_in_order :
     (l : JobList) → SoundList l → Admits l → (spare : Bool) (h : ℕ) → h ≤ clock_most → {none : Tally} → none ≡ no_tally
     → replicate count_most none ≡ tallies_of (fresh_of l (window_order spare)) h
 never_in_order l jobs admits spare h high is =
@@ -51,7 +51,7 @@ never_in_order l jobs admits spare h high is =
     short_of_run l setting jobs window_allowed one.slots one.state one.run n within j listed
     ∙ ends_full l admits spare one.slots one.state one.run n within j listed))
 
-window_order_lem : (s : Setting) → s.order ≡ 1 → s.model ≡ 0 → window_order s.spare ≡ s
+pub window_order_lem : (s : Setting) → s.order ≡ 1 → s.model ≡ 0 → window_order s.spare ≡ s
 window_order_lem s order model dim = record { order = sym order dim; model = sym model dim; spare = s.spare }
 
 pub never_tallied :

@@ -64,7 +64,7 @@ unfolding held_upto
 held_step setting places i = sym (ap (held_upto setting places) (add-one i))
 
 -- the fresh state of a list has no tag
-fresh_untagged : (l : JobList) (setting : Setting) → l.count ≤ count_most → NoTags (fresh_of l setting)
+pub fresh_untagged : (l : JobList) (setting : Setting) → l.count ≤ count_most → NoTags (fresh_of l setting)
 fresh_untagged l setting few j = go (dec_lt j l.count)
   where
     go : Dec (j < l.count) → (place_at (fresh_of l setting).places j).at.tag ≡ false
@@ -79,7 +79,7 @@ bare_same q none dim =
       at = record { e = q.at.e; p = q.at.p; u = q.at.u; s = q.at.s; v = q.at.v; tag = none dim };
     }
 
-stand_starts : (s : State) → SoundState s → NoTags s → {chosen : ℕ} → chosen ≡ chosen_of s → Standing s s.places chosen 0
+pub stand_starts : (s : State) → SoundState s → NoTags s → {chosen : ℕ} → chosen ≡ chosen_of s → Standing s s.places chosen 0
 unfolding after_slots
 stand_starts s sound none e =
     record {

@@ -1,11 +1,12 @@
--- A text written into a buffer: its length, and two texts one after the other.
+-- A text written into a buffer: its length, two texts one after the other, and a text byte by byte, from the front and from the back.
 use mathlib.Core.Path.{◌≡◌, sym, ◌∙◌, ap, subst}
-use mathlib.Core.List.{List, [], ◌++◌, append_assoc}
-use Prim.Native.Nat.{ℕ, ◌+◌, ◌≤◌}
-use native.Mathlib.Nat.{add-zero, add_assoc}
+use mathlib.Core.List.{List, [], ◌∷◌, ◌++◌, append_assoc}
+use Prim.Native.Nat.{ℕ, suc, ◌+◌, ◌≤◌, ◌<◌}
+use native.Mathlib.Nat.{zero-add, add-zero, add_assoc, add-suc}
+use native.Mathlib.Numerals.{add-one}
 use native.Mathlib.Omega.{arith}
-use lib.ListN.{length, take, drop, length-append, length-drop, take-append-drop}
-use lib.Seq.{length-take-le, take_at, drop_at, drop-drop}
+use lib.ListN.{length, get_or, take, drop, set, length-append, length-drop, length-set, take-append-drop}
+use lib.Seq.{length-take-le, take_at, drop_at, drop-drop, drop-cons, take-suc, set_split, take-set-le, drop-set-lt, get_or-set_same}
 use borrow.Rule.Slice.PartMut.{put_mid}
 use Rattle.text.specs.Written.{written}
 
@@ -72,3 +73,36 @@ followed {b₀} {x} {b} {y} {b'} {at} {r} {r'} first second =
           ∙ written_twice b₀ at x y (omega arith);
       room = omega arith;
     }
+
+-- a text from the buffer's start on
+pub from_start : {b₀ x b : List ℕ} {r : ℕ} → Ends b₀ 0 x b r → (r ≡ length x) × (b ≡ written b₀ 0 x)
+from_start {b₀} {x} e = (e.place ∙ zero-add (length x), e.bytes)
+
+-- a byte stored is a text of one byte
+stored : (b : List ℕ) (at v : ℕ) → at < length b → set b at v ≡ written b at (v ∷ [])
+stored b at v h = set_split b at v h ∙ ap (λ (n : ℕ). take at b ++ v ∷ drop n b) (sym (add-one at))
+
+-- the next byte of a text, stored after those already written
+pub written_next :
+    (b : List ℕ) (at : ℕ) (text : List ℕ) (i : ℕ) → at + length text ≤ length b → i < length text
+    → set (written b at (take i text)) (at + i) (get_or text i 0) ≡ written b at (take (i + 1) text)
+written_next b at text i room more =
+    let x = take i text in
+    let v = get_or text i 0 in
+    let long : length x ≡ i = length-take-le i text (omega arith) in
+    stored (written b at x) (at + i) v (omega (arith, written_length b at x (omega arith)))
+    ∙ ap (λ (n : ℕ). written (written b at x) (at + n) (v ∷ [])) (sym long)
+    ∙ written_twice b at x (v ∷ []) (omega arith)
+    ∙ ap (written b at) (sym (take-suc text i 0 more) ∙ ap (λ (n : ℕ). take n text) (sym (add-one i)))
+
+-- the last byte of a text, stored before the others are written
+pub written_last :
+    (b : List ℕ) (at : ℕ) (x : List ℕ) (v : ℕ) → at + length x < length b
+    → written (set b (at + length x) v) at x ≡ written b at (x ++ (v ∷ []))
+written_last b at x v room =
+    let n = at + length x in
+    let b' = set b n v in
+    let last : drop n b' ≡ v ∷ drop (suc n) b =
+    drop-cons b' n 0 (omega (arith, length-set b n v))
+    ∙ rw (get_or-set_same b n v 0 room, drop-set-lt (suc n) b n v (omega arith)) in
+    rw (take-set-le at b n v (omega arith), last) (simp (append_assoc, length-append, add-one, add-suc))

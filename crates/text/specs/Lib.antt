@@ -3,3 +3,4 @@ pub mod Ascii
 pub mod Decimal
 pub mod Word
 pub mod Written
+pub mod Promise

@@ -1,8 +1,9 @@
 // Text as bytes, of a room that is fixed when it is made; and a number as bytes.
 #![tactic(auto)]
 
-ghost use Rattle.std.specs.Prelude.{◌≡◌, ◌+◌, ◌≤◌, [], ◌++◌, ◌↔◌, length, IsTrue};
+ghost use Rattle.std.specs.Prelude.{◌≡◌, ◌+◌, ◌≤◌, ◌++◌, length};
 ghost use Rattle.text.specs.Decimal.{decimal_of};
+ghost use Rattle.text.specs.Promise.{EmptyPromise, FitsPromise, SlicePromise, RoomPromise};
 
 mod digits;
 pub mod inner;
@@ -28,7 +29,7 @@ impl<const N: usize> Model for Text<N> {
 
 impl<const N: usize> Text<N> {
     pub fn new() -> Self
-        ensures { result ≡ [] }
+        ensures { EmptyPromise result }
     {
         Text {
             bytes: [0; N],
@@ -37,21 +38,21 @@ impl<const N: usize> Text<N> {
     }
 
     pub fn as_slice(&self) -> &[u8]
-        ensures value { result.now ≡ self.now }
-        ensures fits { length self.now ≤ N }
+        ensures value { SlicePromise self.now result.now }
+        ensures fits { FitsPromise N self.now }
     {
         &self.bytes[..self.len]
     }
 
     // Whether that many bytes more fit.
     pub fn has_room(&self, count: usize) -> bool
-        ensures { IsTrue result ↔ (length self.now + count ≤ N) }
+        ensures { RoomPromise N self.now count result }
     {
         count <= N - self.len
     }
 
     pub fn clear(&mut self)
-        ensures { self.new ≡ [] }
+        ensures { EmptyPromise self.new }
     {
         self.len = 0;
     }

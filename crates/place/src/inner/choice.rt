@@ -15,8 +15,8 @@ use std::marker::Model;
 // The fraction num / den, so small that two are compared by products that do not wrap.
 #[derive(Clone, Copy)]
 pub struct Fraction {
-    num: i64,
-    den: u64,
+    pub num: i64,
+    pub den: u64,
 }
 
 impl Model for Fraction {

@@ -1,6 +1,5 @@
 // The choice: the candidate that none is before, the lower number where two are equal.
-ghost use Rattle.std.specs.Prelude.{◌≡◌};
-ghost use Rattle.run.specs.Choice.{chosen_of};
+ghost use Rattle.run.specs.Promise.{ChoosePromise};
 
 use crate::checked::CheckedState;
 use place::inner::choice::Held;
@@ -10,7 +9,7 @@ impl CheckedState {
     // The number of the place chosen, or of no place where there is no candidate. It is the number that
     // `Held` keeps and no `Option`, for the reason given there.
     pub fn choose(self) -> usize
-        ensures { result ≡ chosen_of self }
+        ensures { ChoosePromise self result }
     {
         let mut best = Held::nobody();
         for at in 0..self.state.count {
